@@ -1,0 +1,89 @@
+-- Demand 3 and the limits, of the plan after any history of calls: the last theorem here is what the others are for. Assumes nothing.
+use Prim.Native.Nat.{ℕ, zero, suc, _+_, _-_, _*_, _≤_, _<_}
+use mathlib.Core.Path.{_≡_, refl, sym, ap, subst, _∙_}
+use mathlib.Core.Bool.{Bool, true, false, cond}
+use mathlib.Core.Option.{Option, none, some}
+use mathlib.Core.Logic.{_⊎_, inl, inr, _↔_}
+use mathlib.Core.List.{List, []}
+use native.Mathlib.Omega.{arith}
+use Rattle.rules.specs.Calls.{Call, run}
+use Rattle.rules.specs.Graphs.{GreatestSum, LineUp, LowestCycle, LowestLineUp}
+use Rattle.rules.specs.Routes.{Plan, inForce, isHeld, live}
+use Rattle.rules.specs.Scores.{Within, cyclePenalty, finish, floorOf, isCyclic, makespan, score, starts}
+use Rattle.rules.specs.Shown.{shownCycle, shownLineUp}
+use Rattle.rules.specs.Sizes.{duration, longest, mostEntries, mostFixed, mostJobs}
+use Rattle.rules.proofs.Bounds.{edges-few, edgesOf, makespan-few, score-within}
+use Rattle.rules.proofs.History.{Soundly, run-sound}
+use Rattle.rules.proofs.Plans.{cyclic-no-lineup, shown-cycle, shown-line-up, starts-greatest}
+use Rattle.rules.proofs.Puts.{Sound, live-held}
+use Rattle.rules.proofs.Ranges.{greatest-at, greatest-ub}
+
+-- "then a cycle is shown, the cycle penalty is the job count and the makespan 0"
+pub record Looped (p : Plan) : Type 0 where
+  pub list : List ℕ
+  pub shown : shownCycle p ≡ some list
+  pub lowest : LowestCycle (p .base .jobs) (live p) list
+  pub penalty : cyclePenalty p ≡ p .base .jobs
+  pub span : makespan p ≡ 0
+
+-- "Otherwise a line-up is shown, the penalty is 0, and every start and the makespan are the longest-path values."
+pub record Calm (p : Plan) : Type 0 where
+  pub list : List ℕ
+  pub shown : shownLineUp p ≡ some list
+  pub lowest : LowestLineUp (p .base .jobs) (live p) list
+  pub penalty : cyclePenalty p ≡ 0
+  pub start : (v : ℕ) → v < p .base .jobs → GreatestSum (p .base .jobs) (live p) (floorOf (p .base)) (duration (p .base)) v (starts p v)
+  pub within : (v : ℕ) → v < p .base .jobs → finish p v ≤ makespan p
+  pub reached : (makespan p ≡ 0) ⊎ ((v : ℕ) × (v < p .base .jobs) × (makespan p ≡ finish p v))
+
+pub record Standing (p : Plan) : Type 0 where
+  -- "An edge is live while its count is above 0."
+  pub lists : (u v : ℕ) → live p u v ≡ isHeld p (u, v)
+  -- "the plan is called cyclic exactly if no line-up of all jobs has every edge leading forward"
+  pub verdict : (isCyclic p ≡ true) ↔ ((l : List ℕ) → LineUp (p .base .jobs) (live p) l → ⊥)
+  pub looped : isCyclic p ≡ true → Looped p
+  pub calm : isCyclic p ≡ false → Calm p
+  -- "Edges always fit: 3,072 + 1,023 = 4,095 distinct at most."
+  pub edges : edgesOf (p .desk .heads) ≤ mostFixed + (mostEntries - 1)
+  -- "Valid entries in force over all owners: at most 1,024."
+  pub entries : inForce (p .desk .routes) ≤ mostEntries
+  -- "A duration sum is at most 2^49, so nothing saturates."
+  pub spans : makespan p ≤ mostJobs * longest
+  pub parts : Within (score p)
+
+looped-of : (p : Plan) → isCyclic p ≡ true → Looped p
+unfolding cyclePenalty makespan
+looped-of p e = let (l, q, L) = shown-cycle p e in record { list = l; shown = q; lowest = L; penalty = rw e; span = rw e }
+
+calm-of : (p : Plan) → isCyclic p ≡ false → Calm p
+unfolding cyclePenalty makespan
+calm-of p e = let (l, q, L) = shown-line-up p e in record {
+  list = l;
+  shown = q;
+  lowest = L;
+  penalty = rw e;
+  start = starts-greatest p e;
+  within = λ v h. rw e (greatest-ub (p .base .jobs) (λ v. true) (finish p) v h refl);
+  reached = rw e (drop-test (greatest-at (p .base .jobs) (λ v. true) (finish p)));
+}
+  where
+    drop-test : {g : ℕ} → (g ≡ 0) ⊎ ((v : ℕ) × (v < p .base .jobs) × (true ≡ true) × (g ≡ finish p v))
+        → (g ≡ 0) ⊎ ((v : ℕ) × (v < p .base .jobs) × (g ≡ finish p v))
+    drop-test (inl z) = inl z
+    drop-test (inr (v, h, t, q)) = inr (v, h, q)
+
+pub sound-standing : (p : Plan) → Sound p → Standing p
+sound-standing p S = record {
+  lists = live-held p S;
+  verdict = cyclic-no-lineup p;
+  looped = looped-of p;
+  calm = calm-of p;
+  edges = edges-few p S;
+  entries = S .room;
+  spans = makespan-few p S;
+  parts = score-within p S;
+}
+
+-- from a store that is not loaded, after any calls in any order and number
+pub history-stands : (cs : List Call) (p : Plan) → run none cs ≡ some p → Standing p
+history-stands cs p e = sound-standing p (subst Soundly e (run-sound none cs tt))

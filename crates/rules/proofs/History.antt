@@ -1,0 +1,206 @@
+-- Every history of calls, refused ones and waiting retractions included, leaves a sound plan or none. Assumes nothing.
+use Prim.Native.Nat.{ℕ, zero, suc, _+_, _≤_, _<_, _^_}
+use mathlib.Core.Path.{_≡_, refl, sym, ap, subst, _∙_}
+use mathlib.Core.Bool.{Bool, true, false, not, cond, _&&_, _||_}
+use mathlib.Core.Option.{Option, none, some}
+use mathlib.Core.Logic.{_⊎_, inl, inr, ⊎-elim}
+use mathlib.Core.List.{List, [], _∷_, _++_}
+use native.Mathlib.Omega.{arith}
+use native.Mathlib.Nat.{not-suc-le-zero, add-zero}
+use lib.Dec.{eqb, ltb, leb}
+use lib.ListN.{length, getD, replicate, length-replicate}
+use borrow.Author.Tests.{eqb-true, leb-false, ltb-true, ltb-false, not-true, not-false}
+use Rattle.rules.specs.declared.Refusal.{Refusal}
+use Rattle.rules.specs.declared.Refusal.the-variants.{ShortStore}
+use Rattle.rules.specs.Calls.{Ask, Call, Turn, accepted, checksOf, decide, reads, refusal, run, step, to-blocks, to-load, to-move}
+use Rattle.rules.specs.Calls.{to-put, to-reset, to-retract, to-score, to-starts, to-verdict}
+use Rattle.rules.specs.Lists.{anyOf, isZero, keep, memb, sumOf, times}
+use Rattle.rules.specs.Refusals.{Check, firstOf, loadChecks, noOwner, noRoom, tooMany}
+use Rattle.rules.specs.Routes.{Plan, Route, State, emptyRoute, fresh, holders, inForce, linksOf, putPlan, wait}
+use Rattle.rules.specs.Sizes.{Base, Loading, badFrom, baseOf, breaksSize, fitsSizes, hasLong, isLong, isShort, longest}
+use Rattle.rules.specs.Sizes.{mostEntries, mostFixed, mostJobs, mostOwners, pairUp, validFixed}
+use Rattle.rules.proofs.Members.{once-snoc, or-false}
+use Rattle.rules.proofs.Puts.{Loaded, Sound, put-sound}
+use Rattle.rules.proofs.Ranges.{Test, and-true, clash, fail, pass, test}
+use Rattle.rules.proofs.Stages.{Inside, empty-read, inside-from, never}
+use Rattle.rules.proofs.Stored.{From, Tidy, adds-at, adds-tidy}
+use Rattle.rules.proofs.Walks.{memb-snoc}
+
+-- ── an accepted load ──
+
+-- what is refused by none of a list of checks
+abbrev pub Passed : List Check → Type 0
+Passed [] = Unit {0}
+Passed (c ∷ l) = (c .1 ≡ false) × Passed l
+
+pub passed : (l : List Check) → firstOf l ≡ none → Passed l
+passed [] e = tt
+passed (c ∷ l) e = go (test (c .1)) (passed l)
+  where
+    go : Test (c .1) → (firstOf l ≡ none → Passed l) → (c .1 ≡ false) × Passed l
+    go (fail q) ih = (q, ih (sym (ap (λ (b : Bool). cond b (some (c .0)) (firstOf l)) q) ∙ e))
+    go (pass q) ih = let z = sym (ap (λ (b : Bool). cond b (some (c .0)) (firstOf l)) q) ∙ e in let y : _≡_ {A = ℕ} 0 1 = cc in
+        never (omega arith)
+
+-- no duration is too long
+shorts : (l : List ℕ) → anyOf isLong l ≡ false → (v : ℕ) → getD l v 0 ≤ longest
+shorts [] h v = omega arith
+shorts (d ∷ l) h zero = ltb-false longest d (or-false {a = isLong d} h .0)
+shorts (d ∷ l) h (suc v) = shorts l (or-false {a = isLong d} h .1) v
+
+fixed-inside : (n : ℕ) (f t : List ℕ) → anyOf (leb n) f ≡ false → Inside n (keep (λ e. ltb (e .1) n) (pairUp f t))
+fixed-inside n [] t h = tt
+fixed-inside n (a ∷ f) [] h = tt
+fixed-inside n (a ∷ f) (b ∷ t) h = let (x, y) = or-false {a = leb n a} h in go (ltb b n) refl (leb-false n a x) (fixed-inside n f t y)
+  where
+    go : (k : Bool) → ltb b n ≡ k → a < n → Inside n (keep (λ e. ltb (e .1) n) (pairUp f t))
+        → Inside n (cond k ((a, b) ∷ keep (λ e. ltb (e .1) n) (pairUp f t)) (keep (λ e. ltb (e .1) n) (pairUp f t)))
+    go true e x ih = (x, ltb-true b n e, ih)
+    go false e x ih = ih
+
+pub pair-length : (f t : List ℕ) → length (pairUp f t) ≤ length f
+pair-length [] t = omega arith
+pair-length (a ∷ f) [] = omega arith
+pair-length (a ∷ f) (b ∷ t) = let z = pair-length f t in omega arith
+
+-- sizes that fit
+record Fits (l : Loading) : Type 0 where
+  jobs : l .jobs ≤ mostJobs
+  owners : l .owners ≤ mostOwners
+  fixed : length (l .from) ≤ mostFixed
+  durations : length (l .durations) ≡ l .jobs
+
+sizes-fit : (l : Loading) → breaksSize l ≡ false → Fits l
+unfolding breaksSize
+sizes-fit l h =
+    let (a, x) = or-false {a = not (fitsSizes (l .jobs) (l .owners) (length (l .from)))} h in
+    let (b, y) = or-false {a = not (eqb (length (l .from)) (length (l .to)))} x in
+    let (c, z) = or-false {a = not (eqb (length (l .durations)) (l .jobs))} y in
+    let (i, j) = and-true {a = not (ltb mostJobs (l .jobs))} (not-false _ a) in
+    let (j′, k) = and-true {a = not (ltb mostOwners (l .owners))} j in
+    record {
+      jobs = ltb-false mostJobs (l .jobs) (not-true _ i);
+      owners = ltb-false mostOwners (l .owners) (not-true _ j′);
+      fixed = ltb-false mostFixed (length (l .from)) (not-true _ k);
+      durations = eqb-true (length (l .durations)) (l .jobs) (not-false _ c);
+    }
+
+pub load-loaded : (l : Loading) → Passed (loadChecks l) → Loaded (baseOf l)
+unfolding baseOf hasLong badFrom
+load-loaded l (a, (b, (c, d))) = let F = sizes-fit l a in record {
+  jobs = F .jobs;
+  owners = F .owners;
+  fixed = let x = F .fixed in let y = pair-length (l .from) (l .to) in omega arith;
+  durations = F .durations;
+  short = shorts (l .durations) b;
+  inside = fixed-inside (l .jobs) (l .from) (l .to) (or-false {a = anyOf (leb (l .jobs)) (l .from)} c .0);
+}
+
+blank : (n u : ℕ) → _≡_ {A = List ℕ} (getD (replicate n []) u []) []
+blank zero u = refl
+blank (suc n) zero = refl
+blank (suc n) (suc u) = blank n u
+
+blank-route : (n o : ℕ) → getD (replicate n emptyRoute) o emptyRoute ≡ emptyRoute
+blank-route zero o = refl
+blank-route (suc n) zero = refl
+blank-route (suc n) (suc o) = blank-route n o
+
+blank-sum : (n : ℕ) (f : Route → ℕ) → f emptyRoute ≡ 0 → sumOf f (replicate n emptyRoute) ≡ 0
+blank-sum zero f h = refl
+blank-sum (suc n) f h = let a = blank-sum n f h in omega arith
+
+pub fresh-sound : (b : Base) → Loaded b → Sound (fresh b)
+unfolding fresh holders
+fresh-sound b L = record {
+  loaded = L;
+  kept = record {
+    tidy = adds-tidy (b .jobs) (validFixed b) (replicate (b .jobs) []) ok tidy₀;
+    held = λ u v.
+        adds-at (b .jobs) (validFixed b) (replicate (b .jobs) []) u v ok tidy₀
+        ∙ rw (blank (b .jobs) u) (shape u v (times (u, v) (validFixed b)) refl);
+  };
+  rows = length-replicate (b .owners) emptyRoute;
+  reads = λ o. rw (blank-route (b .owners) o) (empty-read (b .jobs));
+  room = let a = blank-sum (b .owners) (λ (r : Route). length (r .stops)) refl in omega arith;
+  waits = λ w m. clash m refl;
+  once = tt;
+}
+  where
+    ok : From (b .jobs) (validFixed b)
+    ok = inside-from (b .jobs) (validFixed b) (L .inside)
+
+    tidy₀ : Tidy (b .jobs) (replicate (b .jobs) [])
+    tidy₀ = record { size = length-replicate (b .jobs) []; once = λ u. rw (blank (b .jobs) u) tt }
+
+    shape : (u v x : ℕ) → times (u, v) (validFixed b) ≡ x
+        → cond (isZero x) false true ≡ not (isZero (x + sumOf (λ r. times (u, v) (linksOf r)) (replicate (b .owners) emptyRoute)))
+    shape u v x q = rw (blank-sum (b .owners) (λ r. times (u, v) (linksOf r)) refl, add-zero) (go x)
+      where
+        go : (x : ℕ) → cond (isZero x) false true ≡ not (isZero x)
+        go zero = refl
+        go (suc x) = refl
+
+-- ── a retraction ──
+
+pub wait-sound : (o : ℕ) (p : Plan) → Sound p → o < p .base .owners → Sound (wait o p)
+unfolding wait
+wait-sound o p S h = go (test (memb o (p .desk .waiting)))
+  where
+    waits : (w : ℕ) → memb w (p .desk .waiting ++ o ∷ []) ≡ true → w < p .base .owners
+    waits w m = ⊎-elim (S .waits w) (λ (q : w ≡ o). rw q h) (memb-snoc w (p .desk .waiting) o m)
+
+    go : Test (memb o (p .desk .waiting)) → Sound (wait o p)
+    go (pass e) = rw e S
+    go (fail e) = rw e (record {
+      loaded = S .loaded;
+      kept = S .kept;
+      rows = S .rows;
+      reads = S .reads;
+      room = S .room;
+      waits = waits;
+      once = once-snoc (p .desk .waiting) o (S .once) e;
+    })
+
+-- ── every call, every history ──
+
+abbrev pub Soundly : State → Type 0
+Soundly none = Unit {0}
+Soundly (some p) = Sound p
+
+decide-sound : (r : Option Refusal) (s : State) (t : Turn) → Soundly s → (r ≡ none → Soundly (t .state)) → Soundly (decide r s t .state)
+decide-sound none s t S f = f refl
+decide-sound (some r) s t S f = S
+
+pub put-of : (p : Plan) (o : ℕ) (l : List ℕ) → Sound p → Passed (noOwner p o ∷ tooMany l ∷ noRoom p o l ∷ []) → Sound (putPlan p o l)
+put-of p o l S (a, (b, (c, d))) =
+    put-sound p o l S (leb-false (p .base .owners) o a) (ltb-false mostEntries (length l) b)
+    (ltb-false mostEntries (inForce (putPlan p o l .desk .routes)) c)
+
+accepted-sound : (s : State) (a : Ask) → Soundly s → Passed (checksOf s a) → Soundly (accepted s a .state)
+unfolding accepted
+accepted-sound s (to-load l) S h = fresh-sound (baseOf l) (load-loaded l h)
+accepted-sound s to-reset S h = tt
+accepted-sound none (to-retract o) S h = tt
+accepted-sound (some p) (to-retract o) S (h, d) = wait-sound o p S (leb-false (p .base .owners) o h)
+accepted-sound none (to-put o l) S h = tt
+accepted-sound (some p) (to-put o l) S h = put-of p o l S h
+accepted-sound none to-score S h = tt
+accepted-sound (some p) to-score S h = S
+accepted-sound none (to-verdict k) S h = tt
+accepted-sound (some p) (to-verdict k) S h = S
+accepted-sound none (to-starts k) S h = tt
+accepted-sound (some p) (to-starts k) S h = S
+accepted-sound none (to-blocks os k) S h = tt
+accepted-sound (some p) (to-blocks os k) S h = S
+accepted-sound none (to-move o m k) S h = tt
+accepted-sound (some p) (to-move o m k) S h = S
+
+pub step-sound : (s : State) (c : Call) → Soundly s → Soundly (step s c .state)
+unfolding step refusal
+step-sound s c S = decide-sound (refusal s c) s (accepted s (c .asks)) S
+    (λ e. accepted-sound s (c .asks) S (passed ((ShortStore, isShort (c .lent)) ∷ checksOf s (c .asks)) e .1))
+
+pub run-sound : (s : State) (cs : List Call) → Soundly s → Soundly (run s cs)
+run-sound s [] S = S
+run-sound s (c ∷ cs) S = run-sound (step s c .state) cs (step-sound s c S)

@@ -1,0 +1,281 @@
+-- What a stage keeps: the stored lists hold an edge exactly if its count, told from the fixed list and the routes in force, is above 0;
+-- and where no edge to a job came or went, the lists hold what they held. Assumes nothing.
+use Prim.Native.Nat.{ℕ, zero, suc, _+_, _≤_, _<_}
+use mathlib.Core.Path.{_≡_, refl, sym, ap, subst, _∙_}
+use mathlib.Core.Bool.{Bool, true, false, not, cond, _&&_, _||_}
+use mathlib.Core.Logic.{_⊎_, inl, inr, ⊎-elim}
+use mathlib.Core.List.{List, [], _∷_, _++_, map}
+use native.Mathlib.Omega.{arith}
+use native.Mathlib.Nat.{not-suc-le-zero}
+use lib.Dec.{eqb, ltb}
+use lib.ListN.{length, getD, set, length-set}
+use lib.Seq.{getD-set-same, getD-set-other}
+use borrow.Author.Tests.{eq-eqb, ne-eqb, eqb-true, ltb-true, lt-ltb}
+use Rattle.rules.specs.Lists.{Pair, isZero, keep, memb, samePair, sumOf, tick, times}
+use Rattle.rules.specs.Reports.{headOf}
+use Rattle.rules.specs.Routes.{Heads, Route, Stop, emptyRoute, exchange, holders, invalidOf, links, linksOf, outs, read, staged}
+use Rattle.rules.specs.Routes.{stopsOf}
+use Rattle.rules.specs.Sizes.{Base, mostEntries, validFixed}
+use Rattle.rules.proofs.Members.{or-false, or-true}
+use Rattle.rules.proofs.Ranges.{Test, and-true, clash, fail, pass, same, test}
+use Rattle.rules.proofs.Stored.{From, Tidy, adds-at, adds-tidy, drops-at, drops-tidy, same-pair}
+
+pub never : {A : Type 0} → ⊥ → A
+never x = absurd x
+
+-- ── edges between jobs below n ──
+
+abbrev pub Inside : ℕ → List Pair → Type 0
+Inside n [] = Unit {0}
+Inside n (e ∷ l) = (e .0 < n) × (e .1 < n) × Inside n l
+
+pub inside-from : (n : ℕ) (l : List Pair) → Inside n l → From n l
+inside-from n [] h = tt
+inside-from n (e ∷ l) (a, b, h) = (a, inside-from n l h)
+
+abbrev pub tips : List Pair → List ℕ
+tips = map headOf
+
+pub inside-keep : (n : ℕ) (c : Pair → Bool) (l : List Pair) → Inside n l → Inside n (keep c l)
+inside-keep n c [] h = tt
+inside-keep n c (e ∷ l) (a, b, h) = go (c e) (inside-keep n c l h)
+  where
+    go : (k : Bool) → Inside n (keep c l) → Inside n (cond k (e ∷ keep c l) (keep c l))
+    go true i = (a, b, i)
+    go false i = i
+
+pub inside-tips : (n : ℕ) (l : List Pair) → Inside n l → (v : ℕ) → memb v (tips l) ≡ true → v < n
+inside-tips n [] h v m = clash m refl
+inside-tips n (e ∷ l) (a, b, h) v m =
+    ⊎-elim (λ (q : eqb v (e .1) ≡ true). rw (eqb-true v (e .1) q) b) (inside-tips n l h v) (or-true {a = eqb v (e .1)} m)
+
+-- an edge that stands in the list is one of them
+pub inside-times : (n : ℕ) (l : List Pair) → Inside n l → (u v : ℕ) → (times (u, v) l ≡ 0) ⊎ ((u < n) × (v < n))
+inside-times n [] h u v = inl refl
+inside-times n (e ∷ l) (a, b, h) u v = go (test (samePair (u, v) e)) (inside-times n l h u v)
+  where
+    go : Test (samePair (u, v) e) → (times (u, v) l ≡ 0) ⊎ ((u < n) × (v < n)) → (times (u, v) (e ∷ l) ≡ 0) ⊎ ((u < n) × (v < n))
+    go t (inr x) = inr x
+    go (fail s) (inl x) = inl (rw s x)
+    go (pass s) (inl x) =
+        let (p, q) = and-true {a = eqb u (e .0)} s in
+        inr (rw (eqb-true u (e .0) p) a, rw (eqb-true v (e .1) q) b)
+
+-- ── sums over routes, one of which becomes another ──
+
+module _ {A : Type 0} (f : A → ℕ) (d : A) where
+  pub sum-set : (l : List A) (o : ℕ) (r : A) → o < length l → sumOf f (set l o r) + f (getD l o d) ≡ sumOf f l + f r
+  sum-set [] o r h = absurd (not-suc-le-zero h)
+  sum-set (x ∷ l) zero r h = omega arith
+  sum-set (x ∷ l) (suc o) r h = let a = sum-set l o r (omega arith) in omega arith
+
+  pub sum-at : (l : List A) (o : ℕ) → o < length l → f (getD l o d) ≤ sumOf f l
+  sum-at [] o h = absurd (not-suc-le-zero h)
+  sum-at (x ∷ l) zero h = omega arith
+  sum-at (x ∷ l) (suc o) h = let a = sum-at l o (omega arith) in omega arith
+
+  pub sum-zero : (l : List A) → ((o : ℕ) → f (getD l o d) ≡ 0) → sumOf f l ≡ 0
+  sum-zero [] h = refl
+  sum-zero (r ∷ l) h = let a = h 0 in let b = sum-zero l (λ o. h (suc o)) in omega arith
+
+-- ── a stage ──
+
+-- the lists of t are those of the counts c
+pub record Kept (n : ℕ) (c : Pair → ℕ) (t : Heads) : Type 0 where
+  pub tidy : Tidy n t
+  pub held : (u v : ℕ) → memb v (outs t u) ≡ not (isZero (c (u, v)))
+
+-- a stage keeps that, if the counts tell what happened
+pub exchange-kept : (n : ℕ) (t : Heads) (before after : Pair → ℕ) (old new : List Pair) → From n old → From n new
+    → ((e : Pair) → after e + times e old ≡ before e + times e new) → ((e : Pair) → times e new ≤ after e)
+    → Kept n before t → Kept n after (exchange t before after old new .heads)
+unfolding exchange
+exchange-kept n t before after old new ho hn tells fits K = record {
+  tidy = adds-tidy n new _ hn (drops-tidy n c old t ho (K .tidy));
+  held = λ u v.
+      adds-at n new _ u v hn (drops-tidy n c old t ho (K .tidy))
+      ∙ ap (λ (b : Bool). cond (isZero (times (u, v) new)) b true) (drops-at n c old t u v ho (K .tidy))
+      ∙ ap (shape u v) (K .held u v)
+      ∙ go (times (u, v) new) (times (u, v) old) (before (u, v)) (after (u, v)) (tells (u, v)) (fits (u, v));
+}
+  where
+    c : Pair → Bool
+    c e = isZero (after e)
+
+    shape : ℕ → ℕ → Bool → Bool
+    shape u v b = cond (isZero (times (u, v) new)) (cond (isZero (times (u, v) old)) b (cond (c (u, v)) false b)) true
+
+    go : (w o b a : ℕ) → a + o ≡ b + w → w ≤ a
+        → cond (isZero w) (cond (isZero o) (not (isZero b)) (cond (isZero a) false (not (isZero b)))) true ≡ not (isZero a)
+    go zero zero zero zero q h = refl
+    go zero zero zero (suc a) q h = never (omega arith)
+    go zero zero (suc b) zero q h = never (omega arith)
+    go zero zero (suc b) (suc a) q h = refl
+    go zero (suc o) b zero q h = refl
+    go zero (suc o) zero (suc a) q h = never (omega arith)
+    go zero (suc o) (suc b) (suc a) q h = refl
+    go (suc w) o b zero q h = never (omega arith)
+    go (suc w) o b (suc a) q h = refl
+
+keep-none : (c : Pair → Bool) (u v : ℕ) (l : List Pair) → c (u, v) ≡ true → memb v (tips (keep c l)) ≡ false → times (u, v) l ≡ 0
+keep-none c u v [] h m = refl
+keep-none c u v (f ∷ l) h m = go (samePair (u, v) f) refl (c f) refl (keep-none c u v l h) m
+  where
+    go : (s : Bool) → samePair (u, v) f ≡ s → (k : Bool) → c f ≡ k → (memb v (tips (keep c l)) ≡ false → times (u, v) l ≡ 0)
+        → memb v (tips (cond k (f ∷ keep c l) (keep c l))) ≡ false → tick s (times (u, v) l) ≡ 0
+    go true s true k ih m = clash (and-true {a = eqb u (f .0)} s .1) (or-false {a = eqb v (f .1)} m .0)
+    go true s false k ih m = clash h (ap c (same-pair {u = u} {v = v} {e = f} s) ∙ k)
+    go false s true k ih m = ih (or-false {a = eqb v (f .1)} m .1)
+    go false s false k ih m = ih m
+
+-- where no edge to v came or went, v has the predecessors that it had
+pub exchange-same : (n : ℕ) (t : Heads) (before after : Pair → ℕ) (old new : List Pair)
+    → ((e : Pair) → after e + times e old ≡ before e + times e new)
+    → Kept n before t → Kept n after (exchange t before after old new .heads) → (u v : ℕ)
+    → memb v (tips (exchange t before after old new .came)) ≡ false → memb v (tips (exchange t before after old new .went)) ≡ false
+    → memb v (outs t u) ≡ memb v (outs (exchange t before after old new .heads) u)
+unfolding exchange
+exchange-same n t before after old new tells K L u v hc hw =
+    K .held u v ∙ go (before (u, v)) refl (after (u, v)) refl (tells (u, v)) ∙ sym (L .held u v)
+  where
+    go : (b : ℕ) → before (u, v) ≡ b → (a : ℕ) → after (u, v) ≡ a → a + times (u, v) old ≡ b + times (u, v) new
+        → not (isZero b) ≡ not (isZero a)
+    go zero p zero q r = refl
+    go (suc b) p (suc a) q r = refl
+    go zero p (suc a) q r = let z = keep-none (λ e. isZero (before e)) u v new (rw p) hc in never (omega arith)
+    go (suc b) p zero q r = let z = keep-none (λ e. isZero (after e)) u v old (rw q) hw in never (omega arith)
+
+-- ── routes ──
+
+-- the jobs of a route's stops are below n
+abbrev pub LowStops : ℕ → List Stop → Type 0
+LowStops n [] = Unit {0}
+LowStops n (s ∷ l) = (s .0 < n) × LowStops n l
+
+pub links-inside : (n : ℕ) (l : List Stop) → LowStops n l → Inside n (links l)
+links-inside n [] h = tt
+links-inside n (a ∷ []) h = tt
+links-inside n (a ∷ b ∷ l) (x, (y, h)) = go (b .1) (links-inside n (b ∷ l) (y, h))
+  where
+    go : (k : Bool) → Inside n (links (b ∷ l)) → Inside n (cond k ((a .0, b .0) ∷ links (b ∷ l)) (links (b ∷ l)))
+    go true i = (x, y, i)
+    go false i = i
+
+-- the first stop is joined to none
+abbrev pub Apart : List Stop → Type 0
+Apart [] = Unit {0}
+Apart (s ∷ l) = s .1 ≡ false
+
+-- a route in force of a plan of n jobs
+pub record Read (n : ℕ) (r : Route) : Type 0 where
+  pub low : LowStops n (r .stops)
+  pub apart : Apart (r .stops)
+  pub few : length (r .stops) + r .invalid ≤ mostEntries
+
+pub empty-read : (n : ℕ) → Read n emptyRoute
+empty-read n = record { low = tt; apart = tt; few = omega arith }
+
+stops-low : (n : ℕ) (j : Bool) (l : List ℕ) → LowStops n (stopsOf n j l)
+stops-low n j [] = tt
+stops-low n j (v ∷ l) = go (ltb v n) refl (λ k. stops-low n k l)
+  where
+    go : (x : Bool) → ltb v n ≡ x → ((k : Bool) → LowStops n (stopsOf n k l))
+        → LowStops n (cond x ((v, j) ∷ stopsOf n true l) (stopsOf n false l))
+    go true e ih = (ltb-true v n e, ih true)
+    go false e ih = ih false
+
+stops-apart : (n : ℕ) (l : List ℕ) → Apart (stopsOf n false l)
+stops-apart n [] = tt
+stops-apart n (v ∷ l) = go (ltb v n) (stops-apart n l)
+  where
+    go : (x : Bool) → Apart (stopsOf n false l) → Apart (cond x ((v, false) ∷ stopsOf n true l) (stopsOf n false l))
+    go true ih = refl
+    go false ih = ih
+
+stops-count : (n : ℕ) (j : Bool) (l : List ℕ) → length (stopsOf n j l) + invalidOf n l ≡ length l
+stops-count n j [] = refl
+stops-count n j (v ∷ l) = go (ltb v n) (λ k. stops-count n k l)
+  where
+    go : (x : Bool) → ((k : Bool) → length (stopsOf n k l) + invalidOf n l ≡ length l)
+        → length (cond x ((v, j) ∷ stopsOf n true l) (stopsOf n false l)) + tick (not x) (invalidOf n l) ≡ suc (length l)
+    go true ih = omega (arith, ih true)
+    go false ih = omega (arith, ih false)
+
+pub read-read : (n : ℕ) (l : List ℕ) → length l ≤ mostEntries → Read n (read n l)
+unfolding read
+read-read n l h = record { low = stops-low n false l; apart = stops-apart n l; few = let a = stops-count n false l in omega arith }
+
+-- the routes l, each of which can be in force
+abbrev pub Reads : ℕ → List Route → Type 0
+Reads n l = (o : ℕ) → Read n (getD l o emptyRoute)
+
+pub reads-set : (n : ℕ) (l : List Route) (o : ℕ) (r : Route) → Reads n l → Read n r → o < length l → Reads n (set l o r)
+reads-set n l o r R h k w = go (same w o)
+  where
+    go : (w ≡ o) ⊎ (w ≡ o → ⊥) → Read n (getD (set l o r) w emptyRoute)
+    go (inl q) = rw (q, getD-set-same l o r emptyRoute k) h
+    go (inr q) = rw (getD-set-other l o w r emptyRoute q) (R w)
+
+-- ── an owner's route becomes another ──
+
+module _ (b : Base) (l : List Route) (t : Heads) (o : ℕ) (r : Route) (h : o < length l)
+    (R : Reads (b .jobs) l) (i : Read (b .jobs) r) where
+  old-inside : Inside (b .jobs) (linksOf (getD l o emptyRoute))
+  old-inside = links-inside (b .jobs) (getD l o emptyRoute .stops) (R o .low)
+
+  new-inside : Inside (b .jobs) (linksOf r)
+  new-inside = links-inside (b .jobs) (r .stops) (i .low)
+
+  tells : (e : Pair) → holders b (set l o r) e + times e (linksOf (getD l o emptyRoute)) ≡ holders b l e + times e (linksOf r)
+  unfolding holders
+  tells e = let a = sum-set (λ r. times e (linksOf r)) emptyRoute l o r h in omega arith
+
+  fits : (e : Pair) → times e (linksOf r) ≤ holders b (set l o r) e
+  unfolding holders
+  fits e =
+      let k : o < length (set l o r) = (let z = length-set l o r in omega arith) in
+      let a = sum-at (λ r. times e (linksOf r)) emptyRoute (set l o r) o k in
+      let q = ap (λ (x : Route). times e (linksOf x)) (getD-set-same l o r emptyRoute h) in
+      omega arith
+
+  pub staged-kept : Kept (b .jobs) (holders b l) t → Kept (b .jobs) (holders b (set l o r)) (staged b l t o r .heads)
+  unfolding staged
+  staged-kept = exchange-kept (b .jobs) t (holders b l) (holders b (set l o r)) (linksOf (getD l o emptyRoute)) (linksOf r)
+      (inside-from (b .jobs) (linksOf (getD l o emptyRoute)) old-inside) (inside-from (b .jobs) (linksOf r) new-inside)
+      tells fits
+
+  pub staged-same : Kept (b .jobs) (holders b l) t → (u v : ℕ) → memb v (tips (staged b l t o r .came)) ≡ false
+      → memb v (tips (staged b l t o r .went)) ≡ false → memb v (outs t u) ≡ memb v (outs (staged b l t o r .heads) u)
+  unfolding staged
+  staged-same K =
+      exchange-same (b .jobs) t (holders b l) (holders b (set l o r)) (linksOf (getD l o emptyRoute)) (linksOf r) tells K
+      (staged-kept K)
+
+  -- what came and what went are edges between jobs below n
+  pub staged-inside : Inside (b .jobs) (staged b l t o r .came) × Inside (b .jobs) (staged b l t o r .went)
+  unfolding staged exchange
+  staged-inside = (
+    inside-keep (b .jobs) (λ e. isZero (holders b l e)) (linksOf r) new-inside,
+    inside-keep (b .jobs) (λ e. isZero (holders b (set l o r) e)) (linksOf (getD l o emptyRoute)) old-inside,
+  )
+
+-- an edge that is held leads between jobs below n
+pub held-inside : (b : Base) (l : List Route) → Reads (b .jobs) l → Inside (b .jobs) (validFixed b) → (u v : ℕ)
+    → (holders b l (u, v) ≡ 0) ⊎ ((u < b .jobs) × (v < b .jobs))
+unfolding holders
+held-inside b l R F u v = go (inside-times (b .jobs) (validFixed b) F u v) (test (ltb u (b .jobs) && ltb v (b .jobs)))
+  where
+    none : ltb u (b .jobs) && ltb v (b .jobs) ≡ false → (o : ℕ) → times (u, v) (linksOf (getD l o emptyRoute)) ≡ 0
+    none e o = out
+        (inside-times (b .jobs) (linksOf (getD l o emptyRoute)) (links-inside (b .jobs) (getD l o emptyRoute .stops) (R o .low)) u v)
+      where
+        out : (times (u, v) (linksOf (getD l o emptyRoute)) ≡ 0) ⊎ ((u < b .jobs) × (v < b .jobs))
+            → times (u, v) (linksOf (getD l o emptyRoute)) ≡ 0
+        out (inl x) = x
+        out (inr (x, y)) = clash (rw (lt-ltb u (b .jobs) x, lt-ltb v (b .jobs) y)) e
+
+    go : (times (u, v) (validFixed b) ≡ 0) ⊎ ((u < b .jobs) × (v < b .jobs)) → Test (ltb u (b .jobs) && ltb v (b .jobs))
+        → (times (u, v) (validFixed b) + sumOf (λ r. times (u, v) (linksOf r)) l ≡ 0) ⊎ ((u < b .jobs) × (v < b .jobs))
+    go (inr x) t = inr x
+    go (inl x) (pass e) = let (p, q) = and-true {a = ltb u (b .jobs)} e in inr (ltb-true u (b .jobs) p, ltb-true v (b .jobs) q)
+    go (inl x) (fail e) = inl (let y = sum-zero (λ r. times (u, v) (linksOf r)) emptyRoute l (none e) in omega arith)
