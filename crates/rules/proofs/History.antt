@@ -4,7 +4,7 @@ use mathlib.Core.Path.{_≡_, refl, sym, ap, subst, _∙_}
 use mathlib.Core.Bool.{Bool, true, false, not, cond, _&&_, _||_}
 use mathlib.Core.Option.{Option, none, some}
 use mathlib.Core.Logic.{_⊎_, inl, inr, ⊎-elim}
-use mathlib.Core.List.{List, [], _∷_, _++_}
+use mathlib.Core.List.{List, [], _∷_, _++_, map}
 use native.Mathlib.Omega.{arith}
 use native.Mathlib.Nat.{not-suc-le-zero, add-zero}
 use lib.Dec.{eqb, ltb, leb}
@@ -14,15 +14,16 @@ use Rattle.rules.specs.declared.Refusal.{Refusal}
 use Rattle.rules.specs.declared.Refusal.the-variants.{ShortStore}
 use Rattle.rules.specs.Calls.{Ask, Call, Turn, accepted, checksOf, decide, reads, refusal, run, step, to-blocks, to-load, to-move}
 use Rattle.rules.specs.Calls.{to-put, to-reset, to-retract, to-score, to-starts, to-verdict}
-use Rattle.rules.specs.Lists.{anyOf, isZero, keep, memb, sumOf, times}
+use Rattle.rules.specs.Lists.{Pair, anyOf, isZero, keep, memb, sumOf, times}
 use Rattle.rules.specs.Refusals.{Check, firstOf, loadChecks, noOwner, noRoom, tooMany}
-use Rattle.rules.specs.Routes.{Plan, Route, State, emptyRoute, fresh, holders, inForce, linksOf, putPlan, wait}
+use Rattle.rules.specs.Routes.{Heads, Plan, Route, State, adds, emptyRoute, fresh, holders, inForce, linksOf, putPlan, turned}
+use Rattle.rules.specs.Routes.{wait}
 use Rattle.rules.specs.Sizes.{Base, Loading, badFrom, baseOf, breaksSize, fitsSizes, hasLong, isLong, isShort, longest}
 use Rattle.rules.specs.Sizes.{mostEntries, mostFixed, mostJobs, mostOwners, pairUp, validFixed}
 use Rattle.rules.proofs.Members.{once-snoc, or-false}
 use Rattle.rules.proofs.Puts.{Loaded, Sound, put-sound}
 use Rattle.rules.proofs.Ranges.{Test, and-true, clash, fail, pass, test}
-use Rattle.rules.proofs.Stages.{Inside, empty-read, inside-from, never}
+use Rattle.rules.proofs.Stages.{Inside, Kept, empty-read, inside-from, inside-turned, never, times-turned}
 use Rattle.rules.proofs.Stored.{From, Tidy, adds-at, adds-tidy}
 use Rattle.rules.proofs.Walks.{memb-snoc}
 
@@ -110,36 +111,44 @@ blank-sum : (n : ℕ) (f : Route → ℕ) → f emptyRoute ≡ 0 → sumOf f (re
 blank-sum zero f h = refl
 blank-sum (suc n) f h = let a = blank-sum n f h in omega arith
 
+-- lists from nothing: those of the edges that are added
+fresh-kept : (n : ℕ) (l : List Pair) → From n l → Kept n (λ e. times e l) (adds (replicate n []) l)
+fresh-kept n l ok = record {
+  tidy = adds-tidy n l (replicate n []) ok tidy₀;
+  held = λ u v. adds-at n l (replicate n []) u v ok tidy₀ ∙ rw (blank n u) (shape (times (u, v) l));
+}
+  where
+    tidy₀ : Tidy n (replicate n [])
+    tidy₀ = record { size = length-replicate n []; once = λ u. rw (blank n u) tt }
+
+    shape : (x : ℕ) → cond (isZero x) false true ≡ not (isZero x)
+    shape zero = refl
+    shape (suc x) = refl
+
+-- the same counts, the same lists
+pub kept-as : (n : ℕ) (c d : Pair → ℕ) (t : Heads) → ((e : Pair) → c e ≡ d e) → Kept n c t → Kept n d t
+kept-as n c d t h K = record { tidy = K .tidy; held = λ u v. K .held u v ∙ ap (λ (x : ℕ). not (isZero x)) (h (u, v)) }
+
+fresh-holders : (b : Base) (e : Pair) → times e (validFixed b) ≡ holders b (replicate (b .owners) emptyRoute) e
+unfolding holders
+fresh-holders b e = let a = blank-sum (b .owners) (λ r. times e (linksOf r)) refl in omega arith
+
 pub fresh-sound : (b : Base) → Loaded b → Sound (fresh b)
-unfolding fresh holders
+unfolding fresh
 fresh-sound b L = record {
   loaded = L;
-  kept = record {
-    tidy = adds-tidy (b .jobs) (validFixed b) (replicate (b .jobs) []) ok tidy₀;
-    held = λ u v.
-        adds-at (b .jobs) (validFixed b) (replicate (b .jobs) []) u v ok tidy₀
-        ∙ rw (blank (b .jobs) u) (shape u v (times (u, v) (validFixed b)) refl);
-  };
+  kept = kept-as (b .jobs) (λ e. times e (validFixed b)) _ _ (fresh-holders b)
+      (fresh-kept (b .jobs) (validFixed b) (inside-from (b .jobs) (validFixed b) (L .inside)));
+  kept-tails = kept-as (b .jobs) (λ e. times e (map turned (validFixed b))) _ _
+      (λ e. times-turned e (validFixed b) ∙ fresh-holders b (turned e))
+      (fresh-kept (b .jobs) (map turned (validFixed b))
+      (inside-from (b .jobs) (map turned (validFixed b)) (inside-turned (b .jobs) (validFixed b) (L .inside))));
   rows = length-replicate (b .owners) emptyRoute;
   reads = λ o. rw (blank-route (b .owners) o) (empty-read (b .jobs));
   room = let a = blank-sum (b .owners) (λ (r : Route). length (r .stops)) refl in omega arith;
   waits = λ w m. clash m refl;
   once = tt;
 }
-  where
-    ok : From (b .jobs) (validFixed b)
-    ok = inside-from (b .jobs) (validFixed b) (L .inside)
-
-    tidy₀ : Tidy (b .jobs) (replicate (b .jobs) [])
-    tidy₀ = record { size = length-replicate (b .jobs) []; once = λ u. rw (blank (b .jobs) u) tt }
-
-    shape : (u v x : ℕ) → times (u, v) (validFixed b) ≡ x
-        → cond (isZero x) false true ≡ not (isZero (x + sumOf (λ r. times (u, v) (linksOf r)) (replicate (b .owners) emptyRoute)))
-    shape u v x q = rw (blank-sum (b .owners) (λ r. times (u, v) (linksOf r)) refl, add-zero) (go x)
-      where
-        go : (x : ℕ) → cond (isZero x) false true ≡ not (isZero x)
-        go zero = refl
-        go (suc x) = refl
 
 -- ── a retraction ──
 
@@ -155,6 +164,7 @@ wait-sound o p S h = go (test (memb o (p .desk .waiting)))
     go (fail e) = rw e (record {
       loaded = S .loaded;
       kept = S .kept;
+      kept-tails = S .kept-tails;
       rows = S .rows;
       reads = S .reads;
       room = S .room;

@@ -16,3 +16,6 @@ pub mod History
 pub mod Reported
 pub mod Bounds
 pub mod Demands
+pub mod Checks
+pub mod Latest
+pub mod Runs

@@ -1,13 +1,13 @@
 -- The laws on graphs, of a plan: what its verdict says, what is shown of it, and that its starts are the greatest duration sums.
 -- `isCyclic`, `starts` and the two that are shown are shut elsewhere: whoever asks something of a plan cites this file. Assumes nothing.
-use Prim.Native.Nat.{ℕ, zero, suc, _+_, _≤_, _<_}
-use mathlib.Core.Path.{_≡_, refl, sym, ap, _∙_}
-use mathlib.Core.Bool.{Bool, true, false, not}
+use Prim.Native.Nat.{ℕ, _<_}
+use mathlib.Core.Path.{_≡_, refl, ap}
+use mathlib.Core.Bool.{true, false, not}
 use mathlib.Core.Option.{Option, none, some}
 use mathlib.Core.Logic.{_↔_}
 use mathlib.Core.List.{List}
 use native.Mathlib.Omega.{arith}
-use borrow.Author.Tests.{not-true, not-false}
+use borrow.Author.Tests.{not-true}
 use Rattle.rules.specs.Graphs.{Cycle, GreatestSum, LineUp, LowestCycle, LowestLineUp}
 use Rattle.rules.specs.Lists.{isSome}
 use Rattle.rules.specs.Routes.{Plan, live}

@@ -13,12 +13,12 @@ use borrow.Author.Tests.{eq-eqb, ne-eqb, eqb-true}
 use Rattle.rules.specs.Lists.{Once, Pair, isEmpty, memb}
 use Rattle.rules.specs.Reports.{seeds}
 use Rattle.rules.specs.Routes.{Emptied, Heads, Plan, emptied, empty, emptyRoute, exchange, holders, inForce, isHeld, live, outs}
-use Rattle.rules.specs.Routes.{ownStage, putPlan, read, staged, without}
+use Rattle.rules.specs.Routes.{ownStage, putPlan, read, staged, turned, without}
 use Rattle.rules.specs.Sizes.{Base, duration, longest, mostEntries, mostFixed, mostJobs, mostOwners, validFixed}
 use Rattle.rules.proofs.Members.{or-false}
 use Rattle.rules.proofs.Ranges.{clash}
 use Rattle.rules.proofs.Stages.{Inside, Kept, Read, Reads, empty-read, held-inside, inside-tips, read-read, reads-set}
-use Rattle.rules.proofs.Stages.{staged-inside, staged-kept, staged-same, tips}
+use Rattle.rules.proofs.Stages.{staged-inside, staged-kept, staged-same, staged-tails, tips}
 use Rattle.rules.proofs.Walks.{or-right, single-in, single-once, single-out}
 
 -- what an accepted load leaves of its arguments
@@ -33,6 +33,7 @@ pub record Loaded (b : Base) : Type 0 where
 pub record Sound (p : Plan) : Type 0 where
   pub loaded : Loaded (p .base)
   pub kept : Kept (p .base .jobs) (holders (p .base) (p .desk .routes)) (p .desk .heads)
+  pub kept-tails : Kept (p .base .jobs) (λ e. holders (p .base) (p .desk .routes) (turned e)) (p .desk .tails)
   pub rows : length (p .desk .routes) ≡ p .base .owners
   pub reads : Reads (p .base .jobs) (p .desk .routes)
   pub room : inForce (p .desk .routes) ≤ mostEntries
@@ -67,29 +68,31 @@ inside-append n (e ∷ a) b (x, y, h) k = (x, y, inside-append n a b h k)
 -- after some waiting owners were emptied; t are the stored lists before
 pub record Along (b : Base) (t : Heads) (x : Emptied) : Type 0 where
   pub kept : Kept (b .jobs) (holders b (x .routes)) (x .heads)
+  pub kept-tails : Kept (b .jobs) (λ e. holders b (x .routes) (turned e)) (x .tails)
   pub rows : length (x .routes) ≡ b .owners
   pub reads : Reads (b .jobs) (x .routes)
   pub same : (u v : ℕ) → memb v (tips (x .went)) ≡ false → memb v (outs t u) ≡ memb v (outs (x .heads) u)
   pub inside : Inside (b .jobs) (x .went)
 
-nothing-came : (b : Base) (x : Emptied) (w v : ℕ) → memb v (tips (staged b (x .routes) (x .heads) w emptyRoute .came)) ≡ false
+nothing-came : (b : Base) (x : Emptied) (w v : ℕ) → memb v (tips (staged b (x .routes) (x .heads) (x .tails) w emptyRoute .came)) ≡ false
 unfolding staged exchange
 nothing-came b x w v = refl
 
 without-along : (b : Base) (t : Heads) (w : ℕ) (x : Emptied) → w < b .owners → Along b t x → Along b t (without b w x)
 unfolding without
 without-along b t w x h A = record {
-  kept = staged-kept b (x .routes) (x .heads) w emptyRoute k (A .reads) i (A .kept);
+  kept = staged-kept b (x .routes) (x .heads) (x .tails) w emptyRoute k (A .reads) i (A .kept);
+  kept-tails = staged-tails b (x .routes) (x .heads) (x .tails) w emptyRoute k (A .reads) i (A .kept-tails);
   rows = length-set (x .routes) w emptyRoute ∙ A .rows;
   reads = reads-set (b .jobs) (x .routes) w emptyRoute (A .reads) i k;
   same = λ u v m.
       let (p, q) = or-false {a = memb v (tips (x .went))} (sym (tips-append v (x .went) gone) ∙ m) in
-      A .same u v p ∙ staged-same b (x .routes) (x .heads) w emptyRoute k (A .reads) i (A .kept) u v (nothing-came b x w v) q;
-  inside = inside-append (b .jobs) (x .went) gone (A .inside) (staged-inside b (x .routes) (x .heads) w emptyRoute k (A .reads) i .1);
+      A .same u v p ∙ staged-same b (x .routes) (x .heads) (x .tails) w emptyRoute k (A .reads) i (A .kept) u v (nothing-came b x w v) q;
+  inside = inside-append (b .jobs) (x .went) gone (A .inside) (staged-inside b (x .routes) (x .heads) (x .tails) w emptyRoute k (A .reads) i .1);
 }
   where
     gone : List Pair
-    gone = staged b (x .routes) (x .heads) w emptyRoute .went
+    gone = staged b (x .routes) (x .heads) (x .tails) w emptyRoute .went
 
     i : Read (b .jobs) emptyRoute
     i = empty-read (b .jobs)
@@ -112,6 +115,7 @@ pub emptied-along : (p : Plan) (o : ℕ) → Sound p → Along (p .base) (p .des
 unfolding emptied
 emptied-along p o S = empty-along (p .base) (p .desk .heads) o (p .desk .waiting) _ (S .waits) (record {
   kept = S .kept;
+  kept-tails = S .kept-tails;
   rows = S .rows;
   reads = S .reads;
   same = λ u v m. refl;
@@ -134,8 +138,10 @@ module _ (p : Plan) (o : ℕ) (l : List ℕ) (S : Sound p) (h : o < p .base .own
   unfolding putPlan ownStage
   put-sound room = record {
     loaded = S .loaded;
-    kept = staged-kept (p .base) (emptied p o .routes) (emptied p o .heads) o (read (p .base .jobs) l) inside-owner
+    kept = staged-kept (p .base) (emptied p o .routes) (emptied p o .heads) (emptied p o .tails) o (read (p .base .jobs) l) inside-owner
         (along .reads) is-read (along .kept);
+    kept-tails = staged-tails (p .base) (emptied p o .routes) (emptied p o .heads) (emptied p o .tails) o (read (p .base .jobs) l) inside-owner
+        (along .reads) is-read (along .kept-tails);
     rows = length-set (emptied p o .routes) o (read (p .base .jobs) l) ∙ along .rows;
     reads = reads-set (p .base .jobs) (emptied p o .routes) o (read (p .base .jobs) l) (along .reads) is-read inside-owner;
     room = room;
@@ -156,13 +162,13 @@ module _ (p : Plan) (o : ℕ) (l : List ℕ) (S : Sound p) (h : o < p .base .own
       let (c, d) = or-false {a = memb v (tips (ownStage p o l .went))}
       (sym (tips-append v (ownStage p o l .went) (emptied p o .went)) ∙ b) in
       along .same u v d
-      ∙ staged-same (p .base) (emptied p o .routes) (emptied p o .heads) o (read (p .base .jobs) l) inside-owner (along .reads) is-read
+      ∙ staged-same (p .base) (emptied p o .routes) (emptied p o .heads) (emptied p o .tails) o (read (p .base .jobs) l) inside-owner (along .reads) is-read
       (along .kept) u v a c
 
   put-inside : Inside (p .base .jobs) moves
   unfolding ownStage
   put-inside =
-      let (a, b) = staged-inside (p .base) (emptied p o .routes) (emptied p o .heads) o (read (p .base .jobs) l) inside-owner
+      let (a, b) = staged-inside (p .base) (emptied p o .routes) (emptied p o .heads) (emptied p o .tails) o (read (p .base .jobs) l) inside-owner
       (along .reads) is-read in
       inside-append (p .base .jobs) (ownStage p o l .came) (ownStage p o l .went ++ emptied p o .went) a
       (inside-append (p .base .jobs) (ownStage p o l .went) (emptied p o .went) b (along .inside))

@@ -13,8 +13,8 @@ use lib.Seq.{getD-set-same, getD-set-other}
 use borrow.Author.Tests.{eq-eqb, ne-eqb, eqb-true, ltb-true, lt-ltb}
 use Rattle.rules.specs.Lists.{Pair, isZero, keep, memb, samePair, sumOf, tick, times}
 use Rattle.rules.specs.Reports.{headOf}
-use Rattle.rules.specs.Routes.{Heads, Route, Stop, emptyRoute, exchange, holders, invalidOf, links, linksOf, outs, read, staged}
-use Rattle.rules.specs.Routes.{stopsOf}
+use Rattle.rules.specs.Routes.{Heads, Route, Stop, emptyRoute, exchange, holders, invalidOf, links, linksOf, outs, read, relist}
+use Rattle.rules.specs.Routes.{staged, stopsOf, turned}
 use Rattle.rules.specs.Sizes.{Base, mostEntries, validFixed}
 use Rattle.rules.proofs.Members.{or-false, or-true}
 use Rattle.rules.proofs.Ranges.{Test, and-true, clash, fail, pass, same, test}
@@ -85,12 +85,11 @@ pub record Kept (n : ℕ) (c : Pair → ℕ) (t : Heads) : Type 0 where
   pub tidy : Tidy n t
   pub held : (u v : ℕ) → memb v (outs t u) ≡ not (isZero (c (u, v)))
 
--- a stage keeps that, if the counts tell what happened
-pub exchange-kept : (n : ℕ) (t : Heads) (before after : Pair → ℕ) (old new : List Pair) → From n old → From n new
+-- lists keep that, if the counts tell what happened
+pub relist-kept : (n : ℕ) (t : Heads) (before after : Pair → ℕ) (old new : List Pair) → From n old → From n new
     → ((e : Pair) → after e + times e old ≡ before e + times e new) → ((e : Pair) → times e new ≤ after e)
-    → Kept n before t → Kept n after (exchange t before after old new .heads)
-unfolding exchange
-exchange-kept n t before after old new ho hn tells fits K = record {
+    → Kept n before t → Kept n after (relist t (λ e. isZero (after e)) old new)
+relist-kept n t before after old new ho hn tells fits K = record {
   tidy = adds-tidy n new _ hn (drops-tidy n c old t ho (K .tidy));
   held = λ u v.
       adds-at n new _ u v hn (drops-tidy n c old t ho (K .tidy))
@@ -117,6 +116,22 @@ exchange-kept n t before after old new ho hn tells fits K = record {
     go (suc w) o b zero q h = never (omega arith)
     go (suc w) o b (suc a) q h = refl
 
+-- ── edges the other way round ──
+
+pub inside-turned : (n : ℕ) (l : List Pair) → Inside n l → Inside n (map turned l)
+inside-turned n [] h = tt
+inside-turned n (e ∷ l) (a, b, h) = (b, a, inside-turned n l h)
+
+and-turned : (a b : Bool) → a && b ≡ b && a
+and-turned true true = refl
+and-turned true false = refl
+and-turned false true = refl
+and-turned false false = refl
+
+pub times-turned : (e : Pair) (l : List Pair) → times e (map turned l) ≡ times (turned e) l
+times-turned e [] = refl
+times-turned e (f ∷ l) = rw (and-turned (eqb (e .0) (f .1)) (eqb (e .1) (f .0)), times-turned e l)
+
 keep-none : (c : Pair → Bool) (u v : ℕ) (l : List Pair) → c (u, v) ≡ true → memb v (tips (keep c l)) ≡ false → times (u, v) l ≡ 0
 keep-none c u v [] h m = refl
 keep-none c u v (f ∷ l) h m = go (samePair (u, v) f) refl (c f) refl (keep-none c u v l h) m
@@ -129,13 +144,11 @@ keep-none c u v (f ∷ l) h m = go (samePair (u, v) f) refl (c f) refl (keep-non
     go false s false k ih m = ih m
 
 -- where no edge to v came or went, v has the predecessors that it had
-pub exchange-same : (n : ℕ) (t : Heads) (before after : Pair → ℕ) (old new : List Pair)
-    → ((e : Pair) → after e + times e old ≡ before e + times e new)
-    → Kept n before t → Kept n after (exchange t before after old new .heads) → (u v : ℕ)
-    → memb v (tips (exchange t before after old new .came)) ≡ false → memb v (tips (exchange t before after old new .went)) ≡ false
-    → memb v (outs t u) ≡ memb v (outs (exchange t before after old new .heads) u)
-unfolding exchange
-exchange-same n t before after old new tells K L u v hc hw =
+pub relist-same : (n : ℕ) (t t′ : Heads) (before after : Pair → ℕ) (old new : List Pair)
+    → ((e : Pair) → after e + times e old ≡ before e + times e new) → Kept n before t → Kept n after t′ → (u v : ℕ)
+    → memb v (tips (keep (λ e. isZero (before e)) new)) ≡ false → memb v (tips (keep (λ e. isZero (after e)) old)) ≡ false
+    → memb v (outs t u) ≡ memb v (outs t′ u)
+relist-same n t t′ before after old new tells K L u v hc hw =
     K .held u v ∙ go (before (u, v)) refl (after (u, v)) refl (tells (u, v)) ∙ sym (L .held u v)
   where
     go : (b : ℕ) → before (u, v) ≡ b → (a : ℕ) → after (u, v) ≡ a → a + times (u, v) old ≡ b + times (u, v) new
@@ -166,14 +179,21 @@ abbrev pub Apart : List Stop → Type 0
 Apart [] = Unit {0}
 Apart (s ∷ l) = s .1 ≡ false
 
+-- every stop but the first is joined to the one before it
+abbrev pub Joined : List Stop → Type 0
+Joined [] = Unit {0}
+Joined (a ∷ []) = Unit {0}
+Joined (a ∷ b ∷ l) = (b .1 ≡ true) × Joined (b ∷ l)
+
 -- a route in force of a plan of n jobs
 pub record Read (n : ℕ) (r : Route) : Type 0 where
   pub low : LowStops n (r .stops)
   pub apart : Apart (r .stops)
+  pub joined : r .invalid ≡ 0 → Joined (r .stops)
   pub few : length (r .stops) + r .invalid ≤ mostEntries
 
 pub empty-read : (n : ℕ) → Read n emptyRoute
-empty-read n = record { low = tt; apart = tt; few = omega arith }
+empty-read n = record { low = tt; apart = tt; joined = λ z. tt; few = omega arith }
 
 stops-low : (n : ℕ) (j : Bool) (l : List ℕ) → LowStops n (stopsOf n j l)
 stops-low n j [] = tt
@@ -201,9 +221,29 @@ stops-count n j (v ∷ l) = go (ltb v n) (λ k. stops-count n k l)
     go true ih = omega (arith, ih true)
     go false ih = omega (arith, ih false)
 
+pub all-valid : (n v : ℕ) (l : List ℕ) → invalidOf n (v ∷ l) ≡ 0 → (ltb v n ≡ true) × (invalidOf n l ≡ 0)
+all-valid n v l e = look (ltb v n) refl e
+  where
+    look : (b : Bool) → ltb v n ≡ b → tick (not b) (invalidOf n l) ≡ 0 → (ltb v n ≡ true) × (invalidOf n l ≡ 0)
+    look true q z = (q, z)
+    look false q z = let f : ⊥ = omega arith in absurd f
+
+pub stops-joined : (n : ℕ) (j : Bool) (l : List ℕ) → invalidOf n l ≡ 0 → Joined (stopsOf n j l)
+stops-joined n j [] z = tt
+stops-joined n j (v ∷ []) z = rw (all-valid n v [] z .0) tt
+stops-joined n j (v ∷ w ∷ l) z =
+    let (a, y) = all-valid n v (w ∷ l) z in
+    let (b, x) = all-valid n w l y in
+    rw (a, b) (refl, rw b at (stops-joined n true (w ∷ l) y))
+
 pub read-read : (n : ℕ) (l : List ℕ) → length l ≤ mostEntries → Read n (read n l)
 unfolding read
-read-read n l h = record { low = stops-low n false l; apart = stops-apart n l; few = let a = stops-count n false l in omega arith }
+read-read n l h = record {
+  low = stops-low n false l;
+  apart = stops-apart n l;
+  joined = stops-joined n false l;
+  few = let a = stops-count n false l in omega arith;
+}
 
 -- the routes l, each of which can be in force
 abbrev pub Reads : ℕ → List Route → Type 0
@@ -218,7 +258,7 @@ reads-set n l o r R h k w = go (same w o)
 
 -- ── an owner's route becomes another ──
 
-module _ (b : Base) (l : List Route) (t : Heads) (o : ℕ) (r : Route) (h : o < length l)
+module _ (b : Base) (l : List Route) (t s : Heads) (o : ℕ) (r : Route) (h : o < length l)
     (R : Reads (b .jobs) l) (i : Read (b .jobs) r) where
   old-inside : Inside (b .jobs) (linksOf (getD l o emptyRoute))
   old-inside = links-inside (b .jobs) (getD l o emptyRoute .stops) (R o .low)
@@ -226,7 +266,7 @@ module _ (b : Base) (l : List Route) (t : Heads) (o : ℕ) (r : Route) (h : o < 
   new-inside : Inside (b .jobs) (linksOf r)
   new-inside = links-inside (b .jobs) (r .stops) (i .low)
 
-  tells : (e : Pair) → holders b (set l o r) e + times e (linksOf (getD l o emptyRoute)) ≡ holders b l e + times e (linksOf r)
+  pub tells : (e : Pair) → holders b (set l o r) e + times e (linksOf (getD l o emptyRoute)) ≡ holders b l e + times e (linksOf r)
   unfolding holders
   tells e = let a = sum-set (λ r. times e (linksOf r)) emptyRoute l o r h in omega arith
 
@@ -238,26 +278,35 @@ module _ (b : Base) (l : List Route) (t : Heads) (o : ℕ) (r : Route) (h : o < 
       let q = ap (λ (x : Route). times e (linksOf x)) (getD-set-same l o r emptyRoute h) in
       omega arith
 
-  pub staged-kept : Kept (b .jobs) (holders b l) t → Kept (b .jobs) (holders b (set l o r)) (staged b l t o r .heads)
-  unfolding staged
-  staged-kept = exchange-kept (b .jobs) t (holders b l) (holders b (set l o r)) (linksOf (getD l o emptyRoute)) (linksOf r)
+  pub staged-kept : Kept (b .jobs) (holders b l) t → Kept (b .jobs) (holders b (set l o r)) (staged b l t s o r .heads)
+  unfolding staged exchange
+  staged-kept = relist-kept (b .jobs) t (holders b l) (holders b (set l o r)) (linksOf (getD l o emptyRoute)) (linksOf r)
       (inside-from (b .jobs) (linksOf (getD l o emptyRoute)) old-inside) (inside-from (b .jobs) (linksOf r) new-inside)
       tells fits
 
-  pub staged-same : Kept (b .jobs) (holders b l) t → (u v : ℕ) → memb v (tips (staged b l t o r .came)) ≡ false
-      → memb v (tips (staged b l t o r .went)) ≡ false → memb v (outs t u) ≡ memb v (outs (staged b l t o r .heads) u)
-  unfolding staged
+  pub staged-tails : Kept (b .jobs) (λ e. holders b l (turned e)) s
+      → Kept (b .jobs) (λ e. holders b (set l o r) (turned e)) (staged b l t s o r .tails)
+  unfolding staged exchange
+  staged-tails = relist-kept (b .jobs) s (λ e. holders b l (turned e)) (λ e. holders b (set l o r) (turned e))
+      (map turned (linksOf (getD l o emptyRoute))) (map turned (linksOf r))
+      (inside-from (b .jobs) (map turned (linksOf (getD l o emptyRoute))) (inside-turned (b .jobs) (linksOf (getD l o emptyRoute)) old-inside))
+      (inside-from (b .jobs) (map turned (linksOf r)) (inside-turned (b .jobs) (linksOf r) new-inside))
+      (λ e. rw (times-turned e (linksOf (getD l o emptyRoute)), times-turned e (linksOf r)) (tells (turned e)))
+      (λ e. rw (times-turned e (linksOf r)) (fits (turned e)))
+
+  pub staged-same : Kept (b .jobs) (holders b l) t → (u v : ℕ) → memb v (tips (staged b l t s o r .came)) ≡ false
+      → memb v (tips (staged b l t s o r .went)) ≡ false → memb v (outs t u) ≡ memb v (outs (staged b l t s o r .heads) u)
+  unfolding staged exchange
   staged-same K =
-      exchange-same (b .jobs) t (holders b l) (holders b (set l o r)) (linksOf (getD l o emptyRoute)) (linksOf r) tells K
-      (staged-kept K)
+      relist-same (b .jobs) t (staged b l t s o r .heads) (holders b l) (holders b (set l o r))
+      (linksOf (getD l o emptyRoute)) (linksOf r) tells K (staged-kept K)
 
   -- what came and what went are edges between jobs below n
-  pub staged-inside : Inside (b .jobs) (staged b l t o r .came) × Inside (b .jobs) (staged b l t o r .went)
+  pub staged-inside : Inside (b .jobs) (staged b l t s o r .came) × Inside (b .jobs) (staged b l t s o r .went)
   unfolding staged exchange
-  staged-inside = (
-    inside-keep (b .jobs) (λ e. isZero (holders b l e)) (linksOf r) new-inside,
-    inside-keep (b .jobs) (λ e. isZero (holders b (set l o r) e)) (linksOf (getD l o emptyRoute)) old-inside,
-  )
+  staged-inside =
+      (inside-keep (b .jobs) (λ e. isZero (holders b l e)) (linksOf r) new-inside,
+      inside-keep (b .jobs) (λ e. isZero (holders b (set l o r) e)) (linksOf (getD l o emptyRoute)) old-inside)
 
 -- an edge that is held leads between jobs below n
 pub held-inside : (b : Base) (l : List Route) → Reads (b .jobs) l → Inside (b .jobs) (validFixed b) → (u v : ℕ)

@@ -104,27 +104,38 @@ drops c = each (λ e t. cond (c e) (alter vanish t e) t)
 abbrev pub adds : Heads → List Pair → Heads
 adds = each (λ e t. alter appear t e)
 
+-- the edges `old` give way to `new`: "takes vanishing edges before appearing ones", each by its first place; gone: nobody holds it any more
+abbrev pub relist : Heads → (Pair → Bool) → List Pair → List Pair → Heads
+relist t gone old new = adds (drops gone t old) new
+
+-- an edge the other way round
+abbrev pub turned : Pair → Pair
+turned e = (e .1, e .0)
+
 -- an owner's edges `old` give way to `new`, where the counts were `before` and are `after`
 pub record Stage : Type 0 where
   pub heads : Heads
+  pub tails : Heads
   pub came : List Pair
   pub went : List Pair
 
--- "takes vanishing edges before appearing ones", each by its first place
-unfoldable pub exchange : Heads → (Pair → ℕ) → (Pair → ℕ) → List Pair → List Pair → Stage
-exchange t before after old new = record {
-  heads = adds (drops (λ e. isZero (after e)) t old) new;
+unfoldable pub exchange : Heads → Heads → (Pair → ℕ) → (Pair → ℕ) → List Pair → List Pair → Stage
+exchange t s before after old new = record {
+  heads = relist t (λ e. isZero (after e)) old new;
+  tails = relist s (λ e. isZero (after (turned e))) (map turned old) (map turned new);
   came = keep (λ e. isZero (before e)) new;
   went = keep (λ e. isZero (after e)) old;
 }
 
 -- ── what a history leaves ──
 
--- what belongs to one desk: routes in force, who waits, the stored lists
+-- what belongs to one desk: routes in force, who waits, the stored lists; and the same lists the other way round, for each job the tails of
+-- the live edges to it (no rule reads them: with them a plan decides every word of its store)
 pub record Desk : Type 0 where
   pub routes : List Route
   pub waiting : List ℕ
   pub heads : Heads
+  pub tails : Heads
 
 pub record Plan : Type 0 where
   pub base : Base
@@ -152,45 +163,59 @@ live p = edge (outs (p .desk .heads))
 unfoldable pub fresh : Base → Plan
 fresh b = record {
   base = b;
-  desk = record { routes = replicate (b .owners) emptyRoute; waiting = []; heads = adds (replicate (b .jobs) []) (validFixed b) };
+  desk = record {
+    routes = replicate (b .owners) emptyRoute;
+    waiting = [];
+    heads = adds (replicate (b .jobs) []) (validFixed b);
+    tails = adds (replicate (b .jobs) []) (map turned (validFixed b));
+  };
 }
 
 -- "Retract(owner): .. the owner waits. A second one changes nothing."
 unfoldable pub wait : ℕ → Plan → Plan
-wait o p = cond (memb o (p .desk .waiting)) p
-    (record { base = p .base; desk = record { routes = p .desk .routes; waiting = p .desk .waiting ++ o ∷ []; heads = p .desk .heads } })
+wait o p = cond (memb o (p .desk .waiting)) p (record {
+  base = p .base;
+  desk = record { routes = p .desk .routes; waiting = p .desk .waiting ++ o ∷ []; heads = p .desk .heads; tails = p .desk .tails };
+})
 
 -- owner o's route becomes r
-unfoldable pub staged : Base → List Route → Heads → ℕ → Route → Stage
-staged b l t o r = exchange t (holders b l) (holders b (set l o r)) (linksOf (getD l o emptyRoute)) (linksOf r)
+unfoldable pub staged : Base → List Route → Heads → Heads → ℕ → Route → Stage
+staged b l t s o r = exchange t s (holders b l) (holders b (set l o r)) (linksOf (getD l o emptyRoute)) (linksOf r)
 
 -- "waiting owners other than this one get empty routes, in the order they began to wait"
 pub record Emptied : Type 0 where
   pub routes : List Route
   pub heads : Heads
+  pub tails : Heads
   pub went : List Pair
 
 unfoldable pub without : Base → ℕ → Emptied → Emptied
 without b w x =
-    let s : Stage = staged b (x .routes) (x .heads) w emptyRoute in
-    record { routes = set (x .routes) w emptyRoute; heads = s .heads; went = x .went ++ s .went }
+    let s : Stage = staged b (x .routes) (x .heads) (x .tails) w emptyRoute in
+    record { routes = set (x .routes) w emptyRoute; heads = s .heads; tails = s .tails; went = x .went ++ s .went }
 
 unfoldable pub empty : Base → ℕ → List ℕ → Emptied → Emptied
 empty b o [] x = x
 empty b o (w ∷ ws) x = empty b o ws (cond (eqb w o) x (without b w x))
 
 unfoldable pub emptied : Plan → ℕ → Emptied
-emptied p o = empty (p .base) o (p .desk .waiting) (record { routes = p .desk .routes; heads = p .desk .heads; went = [] })
+emptied p o = empty (p .base) o (p .desk .waiting)
+    (record { routes = p .desk .routes; heads = p .desk .heads; tails = p .desk .tails; went = [] })
 
 -- "then this owner's route is the new one"
 unfoldable pub ownStage : Plan → ℕ → List ℕ → Stage
-ownStage p o l = staged (p .base) (emptied p o .routes) (emptied p o .heads) o (read (p .base .jobs) l)
+ownStage p o l = staged (p .base) (emptied p o .routes) (emptied p o .heads) (emptied p o .tails) o (read (p .base .jobs) l)
 
 -- "nobody waits any more"
 unfoldable pub putPlan : Plan → ℕ → List ℕ → Plan
 putPlan p o l = record {
   base = p .base;
-  desk = record { routes = set (emptied p o .routes) o (read (p .base .jobs) l); waiting = []; heads = ownStage p o l .heads };
+  desk = record {
+    routes = set (emptied p o .routes) o (read (p .base .jobs) l);
+    waiting = [];
+    heads = ownStage p o l .heads;
+    tails = ownStage p o l .tails;
+  };
 }
 
 -- "Valid entries in force over all owners"

@@ -102,4 +102,4 @@ badFrom l = anyOf (leb (l .jobs)) (l .from) || falls 0 (l .from)
 
 -- 9: "a store slice is shorter than its constant in docs/LIMITS.md"
 abbrev pub isShort : Lent → Bool
-isShort s = ltb (s .base) 6660 || (ltb (s .spans) 512 || (ltb (s .edges) 13314 || (ltb (s .routes) 1794 || ltb (s .times) 514)))
+isShort s = ltb (s .base) 6661 || (ltb (s .spans) 512 || (ltb (s .edges) 13314 || (ltb (s .routes) 1794 || ltb (s .times) 514)))

@@ -33,7 +33,7 @@ impl Plan {
     // An expected owner of this number means that none is stated.
     pub const NOBODY: u32 = 4294967295;
     // The store's slices, in words.
-    pub const BASE: usize = 6660;
+    pub const BASE: usize = 6661;
 
     pub const SPANS: usize = 512;
 
