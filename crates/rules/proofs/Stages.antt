@@ -304,9 +304,10 @@ module _ (b : Base) (l : List Route) (t s : Heads) (o : ℕ) (r : Route) (h : o 
   -- what came and what went are edges between jobs below n
   pub staged-inside : Inside (b .jobs) (staged b l t s o r .came) × Inside (b .jobs) (staged b l t s o r .went)
   unfolding staged exchange
-  staged-inside =
-      (inside-keep (b .jobs) (λ e. isZero (holders b l e)) (linksOf r) new-inside,
-      inside-keep (b .jobs) (λ e. isZero (holders b (set l o r) e)) (linksOf (getD l o emptyRoute)) old-inside)
+  staged-inside = (
+    inside-keep (b .jobs) (λ e. isZero (holders b l e)) (linksOf r) new-inside,
+    inside-keep (b .jobs) (λ e. isZero (holders b (set l o r) e)) (linksOf (getD l o emptyRoute)) old-inside,
+  )
 
 -- an edge that is held leads between jobs below n
 pub held-inside : (b : Base) (l : List Route) → Reads (b .jobs) l → Inside (b .jobs) (validFixed b) → (u v : ℕ)
