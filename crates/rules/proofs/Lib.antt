@@ -19,3 +19,5 @@ pub mod Demands
 pub mod Checks
 pub mod Latest
 pub mod Runs
+pub mod Refused
+pub mod Marked
