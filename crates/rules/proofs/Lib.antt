@@ -12,6 +12,7 @@ pub mod Stored
 pub mod Stages
 pub mod Plans
 pub mod Puts
+pub mod Steps
 pub mod History
 pub mod Reported
 pub mod Bounds

@@ -15,7 +15,7 @@ use Rattle.rules.specs.Blocks.{arc, blocks, blocksOf, critical, latest}
 use Rattle.rules.specs.Calls.{Ask, Call, Reply, Turn, accepted, blocked, changed, counted, cycled, lined-up, refusal, refused}
 use Rattle.rules.specs.Calls.{reply, rerouted, run, scored, started, step, to-blocks, to-load, to-move, to-put, to-reset}
 use Rattle.rules.specs.Calls.{to-retract, to-score, to-starts, to-verdict}
-use Rattle.rules.specs.Lists.{Pair, isSome}
+use Rattle.rules.specs.Lists.{Pair, first, isSome, times}
 use Rattle.rules.specs.Moves.{goodPositions, list-change}
 use Rattle.rules.specs.Refusals.{numberOf}
 use Rattle.rules.specs.Reports.{putReport, putWalk, seeds}
