@@ -205,30 +205,30 @@ heads-few u (e ∷ m) l o h = go (same u (e .0)) (λ l′. heads-few u m l′)
 abbrev pub edgesOf : Heads → ℕ
 edgesOf t = sumOf (λ (l : List ℕ). length l) t
 
--- "4,095 distinct at most"
-pub edges-few : (p : Plan) → Sound p → edgesOf (p .desk .heads) ≤ mostFixed + (mostEntries - 1)
-edges-few p S =
+-- lists that hold no head twice, and only heads of edges of m, have no more edges than m
+pub rows-few : (t : Heads) (m : List Pair) → ((u : ℕ) → Once (outs t u)) → ((u v : ℕ) → memb v (outs t u) ≡ true → 0 < times (u, v) m)
+    → edgesOf t ≤ length m
+rows-few t m once held =
     let a = sum-places (λ (l : List ℕ). length l) [] t in
-    let b = sum-le (length t) (λ u. length (outs t u)) (λ u. timesIn u (tails m))
-    (λ u k. heads-few u m (outs t u) (S .kept .tidy .once u) (held u)) in
+    let b = sum-le (length t) (λ u. length (outs t u)) (λ u. timesIn u (tails m)) (λ u k. heads-few u m (outs t u) (once u) (held u)) in
     let c = sum-times (length t) (tails m) in
     let d = tails-length m in
-    let e = holding-few p S in
     omega arith
-  where
-    t : Heads
-    t = p .desk .heads
 
+pub above-zero : (x : ℕ) → not (isZero x) ≡ true → 0 < x
+above-zero zero e = clash e refl
+above-zero (suc x) e = omega arith
+
+-- "4,095 distinct at most"
+pub edges-few : (p : Plan) → Sound p → edgesOf (p .desk .heads) ≤ mostFixed + (mostEntries - 1)
+edges-few p S = let a = rows-few (p .desk .heads) m (S .kept .tidy .once) held in let b = holding-few p S in omega arith
+  where
     m : List Pair
     m = holding (p .base) (p .desk .routes)
 
-    held : (u v : ℕ) → memb v (outs t u) ≡ true → 0 < times (u, v) m
-    held u v k = above (times (u, v) m)
+    held : (u v : ℕ) → memb v (outs (p .desk .heads) u) ≡ true → 0 < times (u, v) m
+    held u v k = above-zero (times (u, v) m)
         (sym (ap (λ (x : ℕ). not (isZero x)) (holders-times (p .base) (p .desk .routes) (u, v))) ∙ sym (S .kept .held u v) ∙ k)
-      where
-        above : (x : ℕ) → not (isZero x) ≡ true → 0 < x
-        above zero e = clash e refl
-        above (suc x) e = omega arith
 
 -- ── the makespan ──
 
