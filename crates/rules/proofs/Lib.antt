@@ -3,6 +3,7 @@ pub mod Ints
 pub mod Scoring
 pub mod Ranges
 pub mod Members
+pub mod Tabled
 pub mod Orders
 pub mod Cycles
 pub mod Verdicts
