@@ -131,7 +131,7 @@ holding-few p S =
     let c = links-all (p .desk .routes) in
     omega (arith, S .loaded .fixed, S .room)
 
-times-length : (e : Pair) (l : List Pair) → times e l ≤ length l
+pub times-length : (e : Pair) (l : List Pair) → times e l ≤ length l
 times-length e [] = omega arith
 times-length e (f ∷ l) = go (samePair e f) (times-length e l)
   where

@@ -1,5 +1,5 @@
 -- Each call keeps a plan sound: the stored lists are those of the counts, the routes are such as can be put. So a put's walk starts where it
--- has to, ends after at most n(n+1)/2 visits, and leaves the starts of the new plan. Assumes nothing.
+-- has to: the edges of the new plan differ only at heads that it queues. Assumes nothing.
 use Prim.Native.Nat.{ℕ, zero, suc, _+_, _≤_, _<_}
 use mathlib.Core.Path.{_≡_, refl, sym, ap, subst, _∙_}
 use mathlib.Core.Bool.{Bool, true, false, not, cond, _&&_, _||_}

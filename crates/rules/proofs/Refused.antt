@@ -21,7 +21,7 @@ use Rattle.rules.proofs.Ranges.{clash}
 
 -- ── what a refused call leaves ──
 
--- "Refusals 1 to 11 change nothing: waiting marks, store and answer buffer stay"
+-- "Refusals 1 to 11 change nothing: waiting marks, store .. stay, and the score change is zero"
 pub refused-stays : (s : State) (c : Call) (r : Refusal) → refusal s c ≡ some r → (step s c .state ≡ s) × (reply s c ≡ refused r)
 unfolding step
 refused-stays s c r e =

@@ -6,20 +6,22 @@ use mathlib.Core.Bool.{Bool, true, false, not, cond, _||_}
 use mathlib.Core.Logic.{_⊎_, inl, inr, ⊎-elim}
 use mathlib.Core.List.{List, [], _∷_, _++_, map}
 use native.Mathlib.Omega.{arith}
+use native.Mathlib.Nat.{not-suc-le-zero}
 use lib.Dec.{eqb}
 use lib.ListN.{length, getD, set, length-set}
 use lib.Seq.{getD-set-same, getD-set-other}
 use borrow.Author.Tests.{eq-eqb, ne-eqb, eqb-true, eqb-false}
 use Rattle.rules.specs.Calls.{reads}
-use Rattle.rules.specs.Lists.{Once, memb, sumOf}
+use Rattle.rules.specs.Lists.{Once, Pair, isZero, keep, memb, samePair, sumOf, times}
 use Rattle.rules.specs.Reports.{push}
-use Rattle.rules.specs.Routes.{Emptied, Plan, Route, Stage, emptied, empty, emptyRoute, inForce, ownStage, putPlan, read, routeOf}
-use Rattle.rules.specs.Routes.{staged, without}
+use Rattle.rules.specs.Routes.{Emptied, Plan, Route, Stage, emptied, empty, emptyRoute, exchange, holders, inForce, linksOf, live}
+use Rattle.rules.specs.Routes.{ownStage, putPlan, read, routeOf, staged, without}
 use Rattle.rules.specs.Sizes.{Base, mostEntries}
 use Rattle.rules.proofs.Members.{memb-append, or-false, or-true}
-use Rattle.rules.proofs.Puts.{Sound, emptied-along}
+use Rattle.rules.proofs.Puts.{Along, Sound, emptied-along}
 use Rattle.rules.proofs.Ranges.{Test, clash, fail, pass, test}
-use Rattle.rules.proofs.Stages.{Read, reads-set, staged-kept, staged-tails, sum-set}
+use Rattle.rules.proofs.Stages.{Read, read-read, reads-set, staged-kept, staged-tails, sum-set, tells}
+use Rattle.rules.proofs.Stored.{same-pair}
 use Rattle.rules.proofs.Walks.{or-right}
 
 -- ── one stage ──
@@ -230,3 +232,89 @@ push-map f q acc (v ∷ l) = push-map f q (cond (memb v acc) acc (acc ++ v ∷ [
 -- numbers named again change nothing
 pub push-once : (f : ℕ → ℕ) (q l : List ℕ) → push q (map f (push [] l)) ≡ push q (map f l)
 push-once f q l = push-map f q [] l
+
+-- ── edges that come ──
+
+fewer-sum : (f : Route → ℕ) → f emptyRoute ≡ 0 → (l : List Route) (w : ℕ) → sumOf f (set l w emptyRoute) ≤ sumOf f l
+fewer-sum f e [] w = omega arith
+fewer-sum f e (r ∷ l) zero = omega arith
+fewer-sum f e (r ∷ l) (suc w) = let a = fewer-sum f e l w in omega arith
+
+less-held : (b : Base) (l : List Route) (w : ℕ) (e : Pair) → holders b (set l w emptyRoute) e ≤ holders b l e
+unfolding holders
+less-held b l w e = let a = fewer-sum (λ r. times e (linksOf r)) refl l w in omega arith
+
+-- emptied routes hold no edge more often
+empty-fewer : (b : Base) (o : ℕ) (ws : List ℕ) (x : Emptied) (e : Pair) → holders b (empty b o ws x .routes) e ≤ holders b (x .routes) e
+unfolding empty without
+empty-fewer b o [] x e = omega arith
+empty-fewer b o (w ∷ ws) x e = let a = empty-fewer b o ws (cond (eqb w o) x (without b w x)) e in let c = go (eqb w o) in omega arith
+  where
+    go : (k : Bool) → holders b (cond k x (without b w x) .routes) e ≤ holders b (x .routes) e
+    go true = omega arith
+    go false = less-held b (x .routes) w e
+
+keep-empty : (c : Pair → Bool) (l : List Pair) (e : Pair) → keep c l ≡ [] → c e ≡ true → times e l ≡ 0
+keep-empty c [] e q h = refl
+keep-empty c (f ∷ l) e q h = go (test (c f)) (keep-empty c l e)
+  where
+    never-cons : {a : Pair} {l : List Pair} → a ∷ l ≡ [] → ⊥
+    never-cons z = let y : _≡_ {A = ℕ} 0 1 = cc in omega arith
+
+    go : Test (c f) → (keep c l ≡ [] → c e ≡ true → times e l ≡ 0) → times e (f ∷ l) ≡ 0
+    go (pass k) ih = absurd (never-cons (sym (ap (λ (b : Bool). cond b (f ∷ keep c l) (keep c l)) k) ∙ q))
+    go (fail k) ih =
+        let d : samePair e f ≡ false = differs (test (samePair e f)) in
+        rw d (ih (sym (ap (λ (b : Bool). cond b (f ∷ keep c l) (keep c l)) k) ∙ q) h)
+      where
+        differs : Test (samePair e f) → samePair e f ≡ false
+        differs (fail s) = s
+        differs (pass s) = clash (sym (ap c (same-pair {u = e .0} {v = e .1} {e = f} s)) ∙ h) k
+
+-- where nothing appeared, every edge of the new plan is one of the old
+pub came-none : (p : Plan) (o : ℕ) (l : List ℕ) → Sound p → Sound (putPlan p o l) → o < p .base .owners → length l ≤ mostEntries
+    → ownStage p o l .came ≡ [] → (u v : ℕ) → live (putPlan p o l) u v ≡ true → live p u v ≡ true
+unfolding putPlan ownStage staged exchange
+came-none p o l S S′ h few none u v k = S .kept .held u v ∙ above (holders (p .base) (p .desk .routes) (u, v)) held
+  where
+    x : Emptied
+    x = emptied p o
+
+    A : Along (p .base) (p .desk .heads) x
+    A = emptied-along p o S
+
+    before : ℕ
+    before = holders (p .base) (x .routes) (u, v)
+
+    after : ℕ
+    after = holders (p .base) (set (x .routes) o (read (p .base .jobs) l)) (u, v)
+
+    positive : (c : ℕ) → not (isZero c) ≡ true → 0 < c
+    positive zero e = clash e refl
+    positive (suc c) e = omega arith
+
+    still : Test (isZero before) → 0 < before
+    still (fail z) = positive before (ap not z)
+    still (pass z) =
+        let a = keep-empty (λ e. isZero (holders (p .base) (x .routes) e)) (linksOf (read (p .base .jobs) l)) (u, v) none z in
+        let b = tells (p .base) (x .routes) (x .heads) (x .tails) o (read (p .base .jobs) l)
+        (let c = A .rows in omega arith) (A .reads) (read-read (p .base .jobs) l few) (u, v) in
+        let d = positive after (sym (S′ .kept .held u v) ∙ k) in
+        let e = zero-of before z in
+        let f : ⊥ = omega arith in
+        absurd f
+      where
+        zero-of : (c : ℕ) → isZero c ≡ true → c ≡ 0
+        zero-of zero e = refl
+        zero-of (suc c) e = clash e refl
+
+    held : 0 < holders (p .base) (p .desk .routes) (u, v)
+    held =
+        let a = empty-fewer (p .base) o (p .desk .waiting) (begun p) (u, v) in
+        let b = ap (λ (y : Emptied). holders (p .base) (y .routes) (u, v)) (emptied-all p o) in
+        let c = still (test (isZero before)) in
+        omega arith
+
+    above : (c : ℕ) → 0 < c → not (isZero c) ≡ true
+    above zero e = absurd (not-suc-le-zero e)
+    above (suc c) e = refl

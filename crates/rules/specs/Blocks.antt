@@ -1,4 +1,4 @@
--- "Critical blocks".
+-- "Critical blocks". "The blocks are written as records into a lent list": a record is the type `Block`.
 use Prim.Native.Nat.{ℕ, zero, suc, _+_, _-_}
 use mathlib.Core.Bool.{Bool, true, false, not, cond, _&&_, _||_}
 use mathlib.Core.List.{List, [], _∷_, _++_}

@@ -88,6 +88,7 @@ verdictOf none none = cycled []
 abbrev pub loads : Plan → Turn
 loads p = record { state = some p; reply = scored (score p) }
 
+-- "Returns score after minus score before, part by part."
 abbrev pub puts : Plan → Plan → Report → Turn
 puts p q r = record { state = some q; reply = changed (minusOf (score q) (score p)) r }
 
@@ -103,7 +104,7 @@ accepted s (to-starts k) = reads s (λ p. started (table (p .base .jobs) (report
 accepted s (to-blocks os k) = reads s (λ p. blocked (blocks p os))
 accepted s (to-move o m k) = reads s (λ p. rerouted (newRoute p o m) (isMovedQuick p o m) (isMovedCyclic p o m))
 
--- "Refusals 1 to 11 change nothing"
+-- "Refusals 1 to 11 change nothing: waiting marks, store and answer buffer stay, and the score change is zero."
 abbrev pub decide : Option Refusal → State → Turn → Turn
 decide none s t = t
 decide (some r) s t = record { state = s; reply = refused r }

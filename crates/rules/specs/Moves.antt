@@ -1,4 +1,5 @@
--- "Moves": the four route moves and both move checks.
+-- "Moves": the four route moves and both move checks. "A move answers the new route and both verdicts; the store stays." "The probe looks
+-- through a view of the live lists and copies none." (That is the code's; here `live` is the lists.)
 use Prim.Native.Nat.{ℕ, zero, suc, _+_, _-_}
 use mathlib.Core.Bool.{Bool, true, false, not, cond, _&&_, _||_}
 use mathlib.Core.List.{List, [], _∷_, _++_, map}
@@ -87,6 +88,8 @@ module _ (old new : List Pair) (alive fixed : Graph) where
 -- "Full check: cyclic exactly if the edges that are on hold a cycle."
 abbrev pub fullCheck : ℕ → Graph → Bool
 fullCheck n E = not (isSome (order n E))
+
+-- "They agree if the live edges, less the removed unfixed ones, hold no cycle.": a theorem, in proofs/Checks
 
 -- some walk leads from v to u
 abbrev pub leads : ℕ → Graph → ℕ → ℕ → Bool

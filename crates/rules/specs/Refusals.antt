@@ -65,6 +65,11 @@ isBroken p o = (BrokenRoute, not (isZero (routeOf p o .invalid)))
 abbrev pub noPositions : Plan → ℕ → Move → Check
 noPositions p o m = (BadPositions, not (goodPositions (length (routeOf p o .stops)) m))
 
--- 10: "the answer buffer has fewer places than the answer needs"
+-- 10: "the answer buffer has fewer places than the answer needs (n for verdict and for starts, the block count for blocks, the route's length
+-- for a move)"
 abbrev pub tooFew : ℕ → ℕ → Check
 tooFew room needs = (ShortAnswer, ltb room needs)
+
+-- 12: "the store holds what no calls could have left, and the call found out". "12 is never given for such a store, nor by load or reset": of
+-- the states here none gives it (proofs/Refused, never-twelve). "A store counts as left by calls if it is zeroed, or if since an accepted load
+-- or reset only calls have written it": such stores are the histories of Calls.

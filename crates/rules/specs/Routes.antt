@@ -54,7 +54,7 @@ violates b o v = not (eqb (expectedOf b v) nobodys) && not (eqb (expectedOf b v)
 abbrev pub violationsOf : Base → ℕ → Route → ℕ
 violationsOf b o r = sumOf (λ v. tick (violates b o v) 0) (jobsOf r)
 
--- how many hold an edge: fixed pairs, and neighbours in the routes
+-- how many hold an edge: "Each fixed pair with `to` below n gives one", and neighbours in the routes
 unfoldable pub holders : Base → List Route → Pair → ℕ
 holders b l e = times e (validFixed b) + sumOf (λ r. times e (linksOf r)) l
 
@@ -159,7 +159,7 @@ edge out u v = memb v (out u)
 abbrev pub live : Plan → Graph
 live p = edge (outs (p .desk .heads))
 
--- "Load: every route empty, none waiting"; "Load adds the fixed list in order."
+-- "Load: every route empty, none waiting; returns the score." "An accepted load replaces what was there." "Load adds the fixed list in order."
 unfoldable pub fresh : Base → Plan
 fresh b = record {
   base = b;
@@ -171,7 +171,7 @@ fresh b = record {
   };
 }
 
--- "Retract(owner): .. the owner waits. A second one changes nothing."
+-- "Retract(owner): accepted, score change 0, the owner waits. A second one changes nothing. Routes in force stay."
 unfoldable pub wait : ℕ → Plan → Plan
 wait o p = cond (memb o (p .desk .waiting)) p (record {
   base = p .base;
@@ -182,7 +182,8 @@ wait o p = cond (memb o (p .desk .waiting)) p (record {
 unfoldable pub staged : Base → List Route → Heads → Heads → ℕ → Route → Stage
 staged b l t s o r = exchange t s (holders b l) (holders b (set l o r)) (linksOf (getD l o emptyRoute)) (linksOf r)
 
--- "waiting owners other than this one get empty routes, in the order they began to wait"
+-- "waiting owners other than this one get empty routes, in the order they began to wait": "A put empties each waiting owner in turn, then for its
+-- own owner takes vanishing edges before appearing ones, each in the order just named."
 pub record Emptied : Type 0 where
   pub routes : List Route
   pub heads : Heads

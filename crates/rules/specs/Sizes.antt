@@ -6,7 +6,8 @@ use lib.Dec.{eqb, ltb, leb}
 use lib.ListN.{length, getD}
 use Rattle.rules.specs.Lists.{isZero, anyOf, keep, Pair}
 
--- "Jobs n: 0 to 512. Owners: 0 to 64. Fixed list: at most 3,072 pairs (from, to)."
+-- "Jobs (the Rust's nodes) n: 0 to 512. Owners: 0 to 64. Fixed list: at most 3,072 pairs (from, to), `from` never falling along the list."
+-- "These sizes are constants belonging to the plan type": `Plan`'s associated constants; its contracts say that they are these.
 abbrev pub mostJobs : ℕ
 mostJobs = 512
 
@@ -28,7 +29,9 @@ longest = 2 ^ 40
 abbrev pub nobodys : ℕ
 nobodys = 4294967295
 
--- "The store is one or more lent slices": the lengths of the five that a call is lent
+-- "Edges always fit: 3,072 + 1,023 = 4,095 distinct at most. A duration sum is at most 2^49, so nothing saturates.": theorems, in proofs/Bounds
+
+-- "The store is one or more lent slices, none needing over 64 KiB": the lengths of the five that a call is lent
 pub record Lent : Type 0 where
   pub base : ℕ
   pub spans : ℕ
