@@ -13,17 +13,21 @@ use Rattle.edges.proofs.Out
 use Rattle.edges.specs.Rows.{offs, flat, pad}
 
 module _ {A : Type 0} where
-  pub flat-split : (rows : List (List A)) (i : ℕ) → i < length rows → flat rows ≡ flat (take i rows) ++ (getD rows i [] ++ flat (drop (suc i) rows))
+  pub flat-split : (rows : List (List A)) (i : ℕ) → i < length rows
+      → flat rows ≡ flat (take i rows) ++ (getD rows i [] ++ flat (drop (suc i) rows))
   unfolding flat
   flat-split [] i h = absurd (not-suc-le-zero h)
   flat-split (r ∷ rs) zero h = refl
-  flat-split (r ∷ rs) (suc i) h = rw (flat-split rs i (le-of-suc-le-suc h)) (sym (append-assoc r (flat (take i rs)) (getD rs i [] ++ flat (drop (suc i) rs))))
+  flat-split (r ∷ rs) (suc i) h =
+      rw (flat-split rs i (le-of-suc-le-suc h)) (sym (append-assoc r (flat (take i rs)) (getD rs i [] ++ flat (drop (suc i) rs))))
 
-  pub flat-set : (rows : List (List A)) (i : ℕ) (r : List A) → i < length rows → flat (set rows i r) ≡ flat (take i rows) ++ (r ++ flat (drop (suc i) rows))
+  pub flat-set : (rows : List (List A)) (i : ℕ) (r : List A) → i < length rows
+      → flat (set rows i r) ≡ flat (take i rows) ++ (r ++ flat (drop (suc i) rows))
   unfolding flat
   flat-set [] i s h = absurd (not-suc-le-zero h)
   flat-set (r ∷ rs) zero s h = refl
-  flat-set (r ∷ rs) (suc i) s h = rw (flat-set rs i s (le-of-suc-le-suc h)) (sym (append-assoc r (flat (take i rs)) (s ++ flat (drop (suc i) rs))))
+  flat-set (r ∷ rs) (suc i) s h =
+      rw (flat-set rs i s (le-of-suc-le-suc h)) (sym (append-assoc r (flat (take i rs)) (s ++ flat (drop (suc i) rs))))
 
   pub offs-length : (b : ℕ) (rows : List (List A)) → length (offs b rows) ≡ suc (length rows)
   unfolding offs
@@ -37,7 +41,8 @@ module _ {A : Type 0} where
   offs-at b (r ∷ rs) zero h = sym (add-zero b)
   offs-at b (r ∷ rs) (suc i) h = offs-at (b + length r) rs i (le-of-suc-le-suc h) ∙ simp length-append (omega arith)
 
-  pub offs-next : (b : ℕ) (rows : List (List A)) (i : ℕ) → i < length rows → getD (offs b rows) (suc i) 0 ≡ getD (offs b rows) i 0 + length (getD rows i [])
+  pub offs-next : (b : ℕ) (rows : List (List A)) (i : ℕ) → i < length rows
+      → getD (offs b rows) (suc i) 0 ≡ getD (offs b rows) i 0 + length (getD rows i [])
   unfolding offs
   offs-next b [] i h = absurd (not-suc-le-zero h)
   offs-next b (r ∷ []) zero h = refl
@@ -52,7 +57,8 @@ module _ {A : Type 0} where
       let u : up b ≡ suc b = omega arith in
       rw (u, offs-all-up (b + length r) rs k, suc-add b (length r))
 
-  pub offs-up : (b : ℕ) (rows : List (List A)) (i : ℕ) (s : List A) → i < length rows → length s ≡ suc (length (getD rows i [])) → b + length (flat rows) < 65535 → mapFrom up (suc i) (offs b rows) ≡ offs b (set rows i s)
+  pub offs-up : (b : ℕ) (rows : List (List A)) (i : ℕ) (s : List A) → i < length rows → length s ≡ suc (length (getD rows i []))
+      → b + length (flat rows) < 65535 → mapFrom up (suc i) (offs b rows) ≡ offs b (set rows i s)
   unfolding offs flat mapFrom
   offs-up b [] i s h e k = absurd (not-suc-le-zero h)
   offs-up b (r ∷ rs) zero s h e k =
@@ -62,7 +68,8 @@ module _ {A : Type 0} where
       let k' : b + length r + length (flat rs) < 65535 = omega (arith, length-append r (flat rs)) in
       ap (λ (l : List ℕ). b ∷ l) (offs-up (b + length r) rs i s (le-of-suc-le-suc h) e k')
 
-  pub offs-same : (b : ℕ) (rows : List (List A)) (i : ℕ) (s : List A) → i < length rows → length s ≡ length (getD rows i []) → offs b (set rows i s) ≡ offs b rows
+  pub offs-same : (b : ℕ) (rows : List (List A)) (i : ℕ) (s : List A) → i < length rows → length s ≡ length (getD rows i [])
+      → offs b (set rows i s) ≡ offs b rows
   unfolding offs
   offs-same b [] i s h e = absurd (not-suc-le-zero h)
   offs-same b (r ∷ rs) zero s h e = rw e
@@ -115,10 +122,12 @@ set-in (x ∷ p) l j v = rw suc-add (ap (λ (r : List ℕ). x ∷ r) (set-in p l
 -- the row i of `rows`, in the table of the g of the elements: it starts at f and ends at t
 module _ {A : Type 0} (g : A → ℕ) (n : ℕ) (rows : List (List A)) (i : ℕ) (h : i < length rows) where
   front : map g (flat rows) ≡ map g (flat (take i rows)) ++ (map g (getD rows i []) ++ map g (flat (drop (suc i) rows)))
-  front = ap (map g) (flat-split rows i h) ∙ map-append g (flat (take i rows)) (getD rows i [] ++ flat (drop (suc i) rows)) ∙ rw map-append
+  front = ap (map g) (flat-split rows i h) ∙ map-append g (flat (take i rows)) (getD rows i [] ++ flat (drop (suc i) rows))
+      ∙ rw map-append
 
   front-set : (s : List A) → map g (flat (set rows i s)) ≡ map g (flat (take i rows)) ++ (map g s ++ map g (flat (drop (suc i) rows)))
-  front-set s = ap (map g) (flat-set rows i s h) ∙ map-append g (flat (take i rows)) (s ++ flat (drop (suc i) rows)) ∙ ap (λ (l : List ℕ). map g (flat (take i rows)) ++ l) (map-append g s (flat (drop (suc i) rows)))
+  front-set s = ap (map g) (flat-set rows i s h) ∙ map-append g (flat (take i rows)) (s ++ flat (drop (suc i) rows))
+      ∙ ap (λ (l : List ℕ). map g (flat (take i rows)) ++ l) (map-append g s (flat (drop (suc i) rows)))
 
   start : getD (offs 0 rows) i 0 ≡ length (map g (flat (take i rows)))
   start = offs-at 0 rows i (omega arith) ∙ zero-add _ ∙ sym (length-map (flat (take i rows)) g)
@@ -126,7 +135,8 @@ module _ {A : Type 0} (g : A → ℕ) (n : ℕ) (rows : List (List A)) (i : ℕ)
   stop : getD (offs 0 rows) (suc i) 0 ≡ length (map g (flat (take i rows)) ++ map g (getD rows i []))
   stop = offs-next 0 rows i h ∙ rw (length-append, start, length-map (getD rows i []) g)
 
-  pub row-slice : (f t : ℕ) → f ≡ getD (offs 0 rows) i 0 → t ≡ getD (offs 0 rows) (suc i) 0 → slice f t (pad n (map g (flat rows))) ≡ map g (getD rows i [])
+  pub row-slice : (f t : ℕ) → f ≡ getD (offs 0 rows) i 0 → t ≡ getD (offs 0 rows) (suc i) 0
+      → slice f t (pad n (map g (flat rows))) ≡ map g (getD rows i [])
   unfolding pad
   row-slice f t ef et =
       let p : List ℕ = map g (flat (take i rows)) in
@@ -136,7 +146,8 @@ module _ {A : Type 0} (g : A → ℕ) (n : ℕ) (rows : List (List A)) (i : ℕ)
       let e : map g (flat rows) ++ z ≡ p ++ q ++ (r ++ z) = ap (λ (l : List ℕ). l ++ z) front ∙ simp append-assoc in
       ap (slice f t) e ∙ ap (drop f) (take-at (p ++ q) (r ++ z) t (sym (et ∙ stop))) ∙ drop-at p q f (sym (ef ∙ start))
 
-  pub row-push : (t : ℕ) (v : A) → t ≡ getD (offs 0 rows) (suc i) 0 → length (flat rows) < n → insertAt t (g v) (pad n (map g (flat rows))) ≡ pad n (map g (flat (set rows i (getD rows i [] ++ (v ∷ [])))))
+  pub row-push : (t : ℕ) (v : A) → t ≡ getD (offs 0 rows) (suc i) 0 → length (flat rows) < n
+      → insertAt t (g v) (pad n (map g (flat rows))) ≡ pad n (map g (flat (set rows i (getD rows i [] ++ (v ∷ [])))))
   row-push t v et room =
       let p : List ℕ = map g (flat (take i rows)) in
       let q : List ℕ = map g (getD rows i []) in
@@ -145,22 +156,38 @@ module _ {A : Type 0} (g : A → ℕ) (n : ℕ) (rows : List (List A)) (i : ℕ)
       let k : length (p ++ q ++ r) < n = omega (arith, ap length e, length-map (flat rows) g) in
       ap (λ (l : List ℕ). insertAt t (g v) (pad n l)) e
       ∙ pad-insert n t (g v) (p ++ q) r (et ∙ stop) k
-      ∙ ap (pad n) (append-assoc p q (g v ∷ r) ∙ ap (λ (l : List ℕ). p ++ l) (sym (append-assoc q (g v ∷ []) r) ∙ ap (λ (l : List ℕ). l ++ r) (sym (map-append g (getD rows i []) (v ∷ [])))) ∙ sym (front-set (getD rows i [] ++ (v ∷ []))))
+      ∙ ap (pad n) (append-assoc p q (g v ∷ r)
+      ∙ ap (λ (l : List ℕ). p ++ l)
+      (sym (append-assoc q (g v ∷ []) r) ∙ ap (λ (l : List ℕ). l ++ r) (sym (map-append g (getD rows i []) (v ∷ []))))
+      ∙ sym (front-set (getD rows i [] ++ (v ∷ []))))
 
   pub row-in : (j : ℕ) → j < length (getD rows i []) → getD (offs 0 rows) i 0 + j < length (flat rows)
   row-in j l =
-      omega (arith, start, ap length front, length-map (flat rows) g, length-map (getD rows i []) g, length-append (map g (flat (take i rows))) (map g (getD rows i []) ++ map g (flat (drop (suc i) rows))), length-append (map g (getD rows i [])) (map g (flat (drop (suc i) rows))))
+      omega (
+        arith,
+        start,
+        ap length front,
+        length-map (flat rows) g,
+        length-map (getD rows i []) g,
+        length-append
+            (map g (flat (take i rows))) (map g (getD rows i []) ++ map g (flat (drop (suc i) rows))),
+        length-append
+            (map g (getD rows i [])) (map g (flat (drop (suc i) rows))),
+      )
 
-  pub row-get : (f j : ℕ) → f ≡ getD (offs 0 rows) i 0 → j < length (getD rows i []) → getD (pad n (map g (flat rows))) (f + j) 0 ≡ getD (map g (getD rows i [])) j 0
+  pub row-get : (f j : ℕ) → f ≡ getD (offs 0 rows) i 0 → j < length (getD rows i [])
+      → getD (pad n (map g (flat rows))) (f + j) 0 ≡ getD (map g (getD rows i [])) j 0
   row-get f j ef l =
       let p : List ℕ = map g (flat (take i rows)) in
       let q : List ℕ = map g (getD rows i []) in
       let r : List ℕ = map g (flat (drop (suc i) rows)) in
       let lq : j < length q = omega (arith, length-map (getD rows i []) g) in
       let b : f + j < length (map g (flat rows)) = omega (arith, row-in j l, length-map (flat rows) g) in
-      pad-get n (f + j) (map g (flat rows)) b ∙ ap (λ (k : ℕ). getD (map g (flat rows)) (k + j) 0) (ef ∙ start) ∙ ap (λ (l : List ℕ). getD l (length p + j) 0) front ∙ getD-append-add p (q ++ r) j 0 ∙ List·getD-append q r 0 j lq
+      pad-get n (f + j) (map g (flat rows)) b ∙ ap (λ (k : ℕ). getD (map g (flat rows)) (k + j) 0) (ef ∙ start)
+      ∙ ap (λ (l : List ℕ). getD l (length p + j) 0) front ∙ getD-append-add p (q ++ r) j 0 ∙ List·getD-append q r 0 j lq
 
-  pub row-set : (f j v : ℕ) (s : List A) → f ≡ getD (offs 0 rows) i 0 → j < length (getD rows i []) → map g s ≡ set (map g (getD rows i [])) j v → set (pad n (map g (flat rows))) (f + j) v ≡ pad n (map g (flat (set rows i s)))
+  pub row-set : (f j v : ℕ) (s : List A) → f ≡ getD (offs 0 rows) i 0 → j < length (getD rows i [])
+      → map g s ≡ set (map g (getD rows i [])) j v → set (pad n (map g (flat rows))) (f + j) v ≡ pad n (map g (flat (set rows i s)))
   row-set f j v s ef l es =
       let p : List ℕ = map g (flat (take i rows)) in
       let q : List ℕ = map g (getD rows i []) in
@@ -168,7 +195,9 @@ module _ {A : Type 0} (g : A → ℕ) (n : ℕ) (rows : List (List A)) (i : ℕ)
       let lq : j < length q = omega (arith, length-map (getD rows i []) g) in
       let b : f + j < length (map g (flat rows)) = omega (arith, row-in j l, length-map (flat rows) g) in
       pad-set n (f + j) v (map g (flat rows)) b
-      ∙ ap (pad n) (ap (λ (k : ℕ). set (map g (flat rows)) (k + j) v) (ef ∙ start) ∙ ap (λ (l : List ℕ). set l (length p + j) v) front ∙ set-in p (q ++ r) j v ∙ ap (λ (l : List ℕ). p ++ l) (set-append-left q r j v lq ∙ ap (λ (l : List ℕ). l ++ r) (sym es)) ∙ sym (front-set s))
+      ∙ ap (pad n) (ap (λ (k : ℕ). set (map g (flat rows)) (k + j) v) (ef ∙ start) ∙ ap (λ (l : List ℕ). set l (length p + j) v) front
+      ∙ set-in p (q ++ r) j v ∙ ap (λ (l : List ℕ). p ++ l) (set-append-left q r j v lq ∙ ap (λ (l : List ℕ). l ++ r) (sym es))
+      ∙ sym (front-set s))
 
 pub offs-in : {A : Type 0} (b : ℕ) (rows : List (List A)) (i : ℕ) → i ≤ length rows → getD (offs b rows) i 0 ≤ b + length (flat rows)
 unfolding offs flat
@@ -183,7 +212,8 @@ module _ {A : Type 0} (rows : List (List A)) (i : ℕ) (h : i < length rows) whe
 
   -- a row whose g are as they were
   pub row-same : (g : A → ℕ) (s : List A) → map g s ≡ map g (getD rows i []) → map g (flat (set rows i s)) ≡ map g (flat rows)
-  row-same g s e = front-set g 0 rows i h s ∙ ap (λ (l : List ℕ). map g (flat (take i rows)) ++ (l ++ map g (flat (drop (suc i) rows)))) e ∙ sym (front g 0 rows i h)
+  row-same g s e = front-set g 0 rows i h s
+      ∙ ap (λ (l : List ℕ). map g (flat (take i rows)) ++ (l ++ map g (flat (drop (suc i) rows)))) e ∙ sym (front g 0 rows i h)
 
 module _ {A : Type 0} where
   offs-all-down : (b : ℕ) (rows : List (List A)) → mapFrom down 0 (offs (suc b) rows) ≡ offs b rows
@@ -193,18 +223,22 @@ module _ {A : Type 0} where
       let u : down (suc b) ≡ b = omega arith in
       rw (u, suc-add b (length r), offs-all-down (b + length r) rs)
 
-  pub offs-down : (b : ℕ) (rows : List (List A)) (i : ℕ) (s : List A) → i < length rows → suc (length s) ≡ length (getD rows i []) → mapFrom down (suc i) (offs b rows) ≡ offs b (set rows i s)
+  pub offs-down : (b : ℕ) (rows : List (List A)) (i : ℕ) (s : List A) → i < length rows → suc (length s) ≡ length (getD rows i [])
+      → mapFrom down (suc i) (offs b rows) ≡ offs b (set rows i s)
   unfolding offs mapFrom
   offs-down b [] i s h e = absurd (not-suc-le-zero h)
   offs-down b (r ∷ rs) zero s h e = rw (← e, add-suc b (length s), offs-all-down (b + length s) rs)
   offs-down b (r ∷ rs) (suc i) s h e = ap (λ (l : List ℕ). b ∷ l) (offs-down (b + length r) rs i s (le-of-suc-le-suc h) e)
 
-  pub flat-less : (rows : List (List A)) (i : ℕ) (s : List A) → i < length rows → suc (length s) ≡ length (getD rows i []) → suc (length (flat (set rows i s))) ≡ length (flat rows)
+  pub flat-less : (rows : List (List A)) (i : ℕ) (s : List A) → i < length rows → suc (length s) ≡ length (getD rows i [])
+      → suc (length (flat (set rows i s))) ≡ length (flat rows)
   flat-less rows i s h e = rw (flat-set rows i s h, flat-split rows i h) (simp length-append (omega arith))
 
 -- the row i without its element d at the place f + length a: the row's last comes there
 module _ {A : Type 0} (g : A → ℕ) (n : ℕ) (rows : List (List A)) (i : ℕ) (h : i < length rows) where
-  pub row-out : (f t p : ℕ) (a b : List A) (d : A) → f ≡ getD (offs 0 rows) i 0 → t ≡ getD (offs 0 rows) (suc i) 0 → getD rows i [] ≡ a ++ (d ∷ b) → p ≡ f + length a → length (flat rows) ≤ n → swapRemove p t (pad n (map g (flat rows))) ≡ pad n (map g (flat (set rows i (a ++ rot b))))
+  pub row-out : (f t p : ℕ) (a b : List A) (d : A) → f ≡ getD (offs 0 rows) i 0 → t ≡ getD (offs 0 rows) (suc i) 0
+      → getD rows i [] ≡ a ++ (d ∷ b) → p ≡ f + length a → length (flat rows) ≤ n
+      → swapRemove p t (pad n (map g (flat rows))) ≡ pad n (map g (flat (set rows i (a ++ rot b))))
   unfolding pad
   row-out f t p a b d ef et parts ep room =
       let P : List ℕ = map g (flat (take i rows)) in
@@ -214,37 +248,59 @@ module _ {A : Type 0} (g : A → ℕ) (n : ℕ) (rows : List (List A)) (i : ℕ)
       let z : ℕ = n - length (map g (flat rows)) in
       let ek : map g (getD rows i []) ≡ Ka ++ (g d ∷ Kb) = ap (map g) parts ∙ map-append g a (d ∷ b) in
       let eo : map g (flat rows) ≡ P ++ ((Ka ++ (g d ∷ Kb)) ++ R) = front g n rows i h ∙ ap (λ (l : List ℕ). P ++ (l ++ R)) ek in
-      let en : map g (flat (set rows i (a ++ rot b))) ≡ P ++ ((Ka ++ rot Kb) ++ R) = front-set g n rows i h (a ++ rot b) ∙ ap (λ (l : List ℕ). P ++ (l ++ R)) (map-append g a (rot b) ∙ ap (λ (l : List ℕ). Ka ++ l) (Out.rot-map g b)) in
-      let whole : map g (flat rows) ++ replicate z 0 ≡ (P ++ Ka) ++ (g d ∷ (Kb ++ (R ++ replicate z 0))) = ap (λ (l : List ℕ). l ++ replicate z 0) eo ∙ simp append-assoc in
+      let en : map g (flat (set rows i (a ++ rot b))) ≡ P ++ ((Ka ++ rot Kb) ++ R) = front-set g n rows i h (a ++ rot b)
+      ∙ ap (λ (l : List ℕ). P ++ (l ++ R)) (map-append g a (rot b) ∙ ap (λ (l : List ℕ). Ka ++ l) (Out.rot-map g b)) in
+      let whole : map g (flat rows) ++ replicate z 0 ≡ (P ++ Ka) ++ (g d ∷ (Kb ++ (R ++ replicate z 0))) =
+      ap (λ (l : List ℕ). l ++ replicate z 0) eo ∙ simp append-assoc in
       let lp : p ≡ length (P ++ Ka) = ep ∙ omega (arith, ef, start g n rows i h, length-append P Ka, length-map a g) in
-      let lt : t ≡ length (P ++ Ka) + suc (length Kb) = et ∙ stop g n rows i h ∙ omega (arith, length-append P (map g (getD rows i [])), ap length ek, length-append Ka (g d ∷ Kb), length-append P Ka) in
+      let lt : t ≡ length (P ++ Ka) + suc (length Kb) = et ∙ stop g n rows i h
+      ∙ omega (arith, length-append P (map g (getD rows i [])), ap length ek, length-append Ka (g d ∷ Kb), length-append P Ka) in
       let lo : length (map g (flat rows)) ≤ n = omega (arith, length-map (flat rows) g) in
-      let ln : suc (length (map g (flat (set rows i (a ++ rot b))))) ≡ length (map g (flat rows)) = omega (arith, ap length eo, ap length en, length-append P ((Ka ++ (g d ∷ Kb)) ++ R), length-append P ((Ka ++ rot Kb) ++ R), length-append (Ka ++ (g d ∷ Kb)) R, length-append (Ka ++ rot Kb) R, length-append Ka (g d ∷ Kb), length-append Ka (rot Kb), Out.rot-length Kb) in
+      let ln : suc (length (map g (flat (set rows i (a ++ rot b))))) ≡ length (map g (flat rows)) =
+      omega (
+        arith,
+        ap length eo,
+        ap length en,
+        length-append P ((Ka ++ (g d ∷ Kb)) ++ R),
+        length-append P
+            ((Ka ++ rot Kb) ++ R),
+        length-append (Ka ++ (g d ∷ Kb)) R,
+        length-append (Ka ++ rot Kb) R,
+        length-append Ka
+            (g d ∷ Kb),
+        length-append Ka (rot Kb),
+        Out.rot-length Kb,
+      ) in
       let ez : n - length (map g (flat (set rows i (a ++ rot b)))) ≡ z + 1 = omega arith in
       ap (swapRemove p t) whole
       ∙ Out.swap-is (P ++ Ka) (g d) Kb (R ++ replicate z 0) p t lp lt
-      ∙ ap (λ (l : List ℕ). (P ++ Ka) ++ (rot Kb ++ l)) (append-assoc R (replicate z 0) (0 ∷ []) ∙ ap (λ (l : List ℕ). R ++ l) (replicate-append-replicate z 1 0))
+      ∙ ap (λ (l : List ℕ). (P ++ Ka) ++ (rot Kb ++ l))
+      (append-assoc R (replicate z 0) (0 ∷ []) ∙ ap (λ (l : List ℕ). R ++ l) (replicate-append-replicate z 1 0))
       ∙ rw (ez, en) (simp append-assoc)
 
 -- all but the first words are zeros, so a step on the first w words is one on the whole
 pub offs-last : {A : Type 0} (rows : List (List A)) → getD (offs 0 rows) (length rows) 0 ≡ length (flat rows)
-offs-last {A} rows = offs-at 0 rows (length rows) (le-refl (length rows)) ∙ zero-add _ ∙ ap (λ (r : List (List A)). length (flat r)) (take-length rows)
+offs-last {A} rows = offs-at 0 rows (length rows) (le-refl (length rows)) ∙ zero-add _
+    ∙ ap (λ (r : List (List A)). length (flat r)) (take-length rows)
 
-insert-short : (k x z : ℕ) (l : List ℕ) → k ≤ length l → insertAt k x (l ++ replicate (suc z) 0) ≡ insertAt k x (l ++ (0 ∷ [])) ++ replicate z 0
+insert-short : (k x z : ℕ) (l : List ℕ) → k ≤ length l
+    → insertAt k x (l ++ replicate (suc z) 0) ≡ insertAt k x (l ++ (0 ∷ [])) ++ replicate z 0
 unfolding insertAt
 insert-short zero x z [] h = ap (λ (r : List ℕ). x ∷ r) (zero-in z)
 insert-short (suc k) x z [] h = absurd (not-suc-le-zero h)
 insert-short zero x z (y ∷ l) h = ap (λ (r : List ℕ). x ∷ r) (insert-short zero y z l (omega arith))
 insert-short (suc k) x z (y ∷ l) h = ap (λ (r : List ℕ). y ∷ r) (insert-short k x z l (le-of-suc-le-suc h))
 
-pub pad-insert-short : (n w k x : ℕ) (l : List ℕ) → w ≡ suc (length l) → w ≤ n → k < w → insertAt k x (take w (pad n l)) ++ drop w (pad n l) ≡ insertAt k x (pad n l)
+pub pad-insert-short : (n w k x : ℕ) (l : List ℕ) → w ≡ suc (length l) → w ≤ n → k < w
+    → insertAt k x (take w (pad n l)) ++ drop w (pad n l) ≡ insertAt k x (pad n l)
 unfolding pad
 pad-insert-short n w k x l ew h hk =
     let z : ℕ = n - w in
     let ez : n - length l ≡ suc z = omega arith in
     let e : l ++ replicate (suc z) 0 ≡ (l ++ (0 ∷ [])) ++ replicate z 0 = sym (append-assoc l (0 ∷ []) (replicate z 0)) in
     let lw : length (l ++ (0 ∷ [])) ≡ w = length-append l (0 ∷ []) ∙ omega arith in
-    rw (ez, insert-short k x z l (omega arith)) (rw (e, take-at (l ++ (0 ∷ [])) (replicate z 0) w lw, drop-at (l ++ (0 ∷ [])) (replicate z 0) w lw))
+    rw (ez, insert-short k x z l (omega arith))
+    (rw (e, take-at (l ++ (0 ∷ [])) (replicate z 0) w lw, drop-at (l ++ (0 ∷ [])) (replicate z 0) w lw))
 
 zeros-end : (z : ℕ) → _≡_ {A = List ℕ} (0 ∷ replicate z 0) (replicate z 0 ++ (0 ∷ []))
 zeros-end z = sym (replicate-append-replicate z 1 0 ∙ ap (λ (n : ℕ). replicate n 0) (add-one z))
@@ -252,14 +308,22 @@ zeros-end z = sym (replicate-append-replicate z 1 0 ∙ ap (λ (n : ℕ). replic
 remove-short : (k z : ℕ) (l : List ℕ) → k < length l → removeAt k (l ++ replicate z 0) ≡ removeAt k l ++ replicate z 0
 unfolding removeAt
 remove-short k z [] h = absurd (not-suc-le-zero h)
-remove-short zero z (y ∷ l) h = append-assoc l (replicate z 0) (0 ∷ []) ∙ ap (λ (r : List ℕ). l ++ r) (sym (zeros-end z)) ∙ sym (append-assoc l (0 ∷ []) (replicate z 0))
+remove-short zero z (y ∷ l) h = append-assoc l (replicate z 0) (0 ∷ []) ∙ ap (λ (r : List ℕ). l ++ r) (sym (zeros-end z))
+    ∙ sym (append-assoc l (0 ∷ []) (replicate z 0))
 remove-short (suc k) z (y ∷ l) h = ap (λ (r : List ℕ). y ∷ r) (remove-short k z l (le-of-suc-le-suc h))
 
-pub pad-swap-short : (n w p t : ℕ) (l : List ℕ) → w ≡ length l → p < t → t ≤ w → swapRemove p t (take w (pad n l)) ++ drop w (pad n l) ≡ swapRemove p t (pad n l)
+pub pad-swap-short : (n w p t : ℕ) (l : List ℕ) → w ≡ length l → p < t → t ≤ w
+    → swapRemove p t (take w (pad n l)) ++ drop w (pad n l) ≡ swapRemove p t (pad n l)
 unfolding pad swapRemove
 pad-swap-short n w p t l ew hp ht =
     let z : ℕ = n - length l in
     let t1 : t - 1 < length l = omega arith in
     let v : ℕ = getD l (t - 1) 0 in
-    rw (take-at l (replicate z 0) w (sym ew), drop-at l (replicate z 0) w (sym ew), List·getD-append l (replicate z 0) 0 (t - 1) t1, set-append-left l (replicate z 0) p v (omega arith))
+    rw (
+      take-at l (replicate z 0) w (sym ew),
+      drop-at l (replicate z 0) w (sym ew),
+      List·getD-append l (replicate z 0) 0
+          (t - 1) t1,
+      set-append-left l (replicate z 0) p v (omega arith),
+    )
     (sym (remove-short (t - 1) z (set l p v) (rw length-set t1)))

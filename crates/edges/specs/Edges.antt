@@ -6,6 +6,8 @@ use mathlib.Core.List.{List, [], _∷_, _++_, map}
 use lib.ListN.{length, getD, set}
 use lib.Dec.{eqb, ltb}
 use Rattle.edges.specs.Rows.{offs, flat, pad}
+use Rattle.edges.specs.declared.Times.{Times}
+use Rattle.edges.specs.declared.Times.the-variants.{Is}
 use Rattle.edges.specs.declared.Added.{Added}
 use Rattle.edges.specs.declared.Added.the-variants.{Appeared, Counted}
 use Rattle.edges.specs.declared.Removed.{Removed}
@@ -138,3 +140,17 @@ removeEdge m i j =
     (record { succ = set (m .succ) i (fewerIn j (getD (m .succ) i [])); pred = m .pred })
     (record { succ = set (m .succ) i (outOf toOf j (getD (m .succ) i [])); pred = set (m .pred) j (outOf same i (getD (m .pred) j [])) }))
     m
+
+-- ── what the layer promises: of words that hold a model, the answer and the next model ──
+
+-- look up
+abbrev pub Counts : List ℕ → ℕ → ℕ → Times → Type 0
+Counts e i j r = (m : Model) → Holds e m → r ≡ Is (countOf m i j)
+
+-- add, while there is room
+abbrev pub Adds : List ℕ → ℕ → ℕ → List ℕ → Added → Type 0
+Adds e i j e′ r = (m : Model) → Holds e m → Room m i j → (r ≡ addAnswer m i j) × Holds e′ (addEdge m i j)
+
+-- remove
+abbrev pub Removes : List ℕ → ℕ → ℕ → List ℕ → Removed → Type 0
+Removes e i j e′ r = (m : Model) → Holds e m → (r ≡ removeAnswer m i j) × Holds e′ (removeEdge m i j)

@@ -12,7 +12,7 @@ ghost use mathlib.Core.Path.{_≡_};
 ghost use Prim.Native.Nat.{_+_, _<_, _≤_};
 ghost use lib.ListN.{length};
 ghost use Rattle.edges.specs.Raw.{Placed, insIn, upIn, appearIn, outIn, downIn, vanishIn};
-ghost use Rattle.edges.specs.Edges.{Model, Holds, countOf, Room, addEdge, addAnswer, removeEdge, removeAnswer};
+ghost use Rattle.edges.specs.Edges.{Counts, Adds, Removes};
 
 pub enum Times {
     Is(u16),
@@ -96,7 +96,7 @@ fn look(e: &[u16], o: usize, a: usize, i: u16, x: u16) -> Place
 // How often the edge from `from` to `to` is there.
 pub fn count(e: &[u16], from: u16, to: u16) -> Times
     requires { ⌜ (length (now e) ≡ 13314) × (from < 512) × (to < 512) ⌝ }
-    ensures { λ r. ⌜ ((m : Model) → Holds (now (e .entry)) m → r ≡ Times.Is (countOf m from to)) ⌝ }
+    ensures { λ r. ⌜ Counts (now (e .entry)) from to r ⌝ }
 {
     match look(e, 0, 513, from, to) {
         Place::At(p, _) => Times::Is(e[4609 + p]),
@@ -108,7 +108,7 @@ pub fn count(e: &[u16], from: u16, to: u16) -> Times
 // One more edge from `from` to `to`.
 pub fn add(e: &mut [u16], from: u16, to: u16) -> Added
     requires { ⌜ (length (now e) ≡ 13314) × (from < 512) × (to < 512) ⌝ }
-    ensures { λ r. ⌜ ((m : Model) → Holds (now (e .entry)) m → Room m from to → (r ≡ addAnswer m from to) × Holds (now (e .exit)) (addEdge m from to)) ⌝ }
+    ensures { λ r. ⌜ Adds (now (e .entry)) from to (now (e .exit)) r ⌝ }
 {
     match look(&e[..], 0, 513, from, to) {
         Place::Bad => Added::Bad,
@@ -169,7 +169,7 @@ fn vanish(e: &mut [u16], i: u16, j: u16, w: usize, p: usize, t: usize, s: usize,
 // One edge less from `from` to `to`.
 pub fn remove(e: &mut [u16], from: u16, to: u16) -> Removed
     requires { ⌜ (length (now e) ≡ 13314) × (from < 512) × (to < 512) ⌝ }
-    ensures { λ r. ⌜ ((m : Model) → Holds (now (e .entry)) m → (r ≡ removeAnswer m from to) × Holds (now (e .exit)) (removeEdge m from to)) ⌝ }
+    ensures { λ r. ⌜ Removes (now (e .entry)) from to (now (e .exit)) r ⌝ }
 {
     match look(&e[..], 0, 513, from, to) {
         Place::Bad => Removed::Bad,

@@ -20,7 +20,8 @@ copy-done a z s at i from to e h =
     sym (ap (λ (t : ℕ). sets a (at + i) (slice (from + i) t s)) h ∙ ap (sets a (at + i)) (slice-empty (from + i) s)) ∙ e
 
 -- one word of a fill
-pub fill-turn : (a z : List ℕ) (i to x : ℕ) → sets a i (replicate (to - i) x) ≡ z → i < to → sets (set a i x) (i + 1) (replicate (to - (i + 1)) x) ≡ z
+pub fill-turn : (a z : List ℕ) (i to x : ℕ) → sets a i (replicate (to - i) x) ≡ z → i < to
+    → sets (set a i x) (i + 1) (replicate (to - (i + 1)) x) ≡ z
 fill-turn a z i to x e h =
     let p : to - i ≡ suc (to - (i + 1)) = omega arith in
     rw add-one (sym (ap (λ (k : ℕ). sets a i (replicate k x)) (p ∙ ap (λ (k : ℕ). suc (to - k)) (add-one i))) ∙ e)
@@ -33,7 +34,8 @@ pub slice-set : (l : List ℕ) (i f t v : ℕ) → i < f → f ≤ t → slice f
 slice-set l i f t v h k = ap (drop f) (take-set-lt t l i v (omega arith)) ∙ drop-set-lt f (take t l) i v h
 
 -- g at each place up to `to`
-pub map-turn : (g : ℕ → ℕ) (a z : List ℕ) (i to y : ℕ) → sets a i (map g (slice i to a)) ≡ z → i < to → to ≤ length a → y ≡ g (getD a i 0)
+pub map-turn : (g : ℕ → ℕ) (a z : List ℕ) (i to y : ℕ) → sets a i (map g (slice i to a)) ≡ z → i < to → to ≤ length a
+    → y ≡ g (getD a i 0)
     → sets (set a i y) (i + 1) (map g (slice (i + 1) to (set a i y))) ≡ z
 map-turn g a z i to y e h l q =
     rw (add-one, slice-set a i (suc i) to y (omega arith) (omega arith), q)
