@@ -2,18 +2,22 @@
 use Prim.Native.Nat.{ℕ, _*_, _≤_, _<_}
 use native.Mathlib.Nat.{mul-le-mul-right}
 use native.Mathlib.Omega.{arith}
-use mathlib.Core.Path.{_≡_, _∙_}
+use mathlib.Core.Path.{_≡_, _∙_, refl}
 use mathlib.Core.Bool.{true, false}
 use mathlib.Core.List.{List}
 use Rattle.rules.specs.Graphs.{Graph}
-use Rattle.rules.specs.Sizes.{longest}
+use Rattle.rules.specs.Sizes.{Base, longest}
 use Rattle.rules.specs.Lists.{Once, memb}
-use Rattle.rules.specs.Scores.{start}
+use Rattle.rules.specs.Scores.{floorOf, start}
 use Rattle.rules.proofs.Orders.{Ranks}
 use Rattle.rules.proofs.Starts.{best-edges, Solves, solves-same, start-bound, start-solves}
 use Rattle.edges.specs.Edges.{Model}
 use Rattle.graphs.specs.Graph.{at, zeros, live}
 use Rattle.graphs.specs.Sound.{Seeded}
+
+-- the rules' floors are these
+pub floors-zero : (b : Base) → floorOf b ≡ zeros
+floors-zero b = refl
 
 -- what solves the equations of a graph with ranks is the rules' start
 pub solved-start : (n : ℕ) (E : Graph) (f d rank s : ℕ → ℕ) → Ranks n E rank → Solves n E f d s → (v : ℕ) → v < n → s v ≡ start n E f d n v
