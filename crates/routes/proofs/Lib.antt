@@ -41,4 +41,6 @@ pub mod Swaps
 pub mod GivingUp
 pub mod Putting
 pub mod Retracts
+pub mod Asking
 pub mod Unique
+pub mod Wellformed

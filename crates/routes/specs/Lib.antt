@@ -12,3 +12,4 @@ pub mod Exchanged
 pub mod Swapped
 pub mod Desks
 pub mod Puts
+pub mod Asks

@@ -12,7 +12,8 @@ use lib.ListN.{length, getD, length-map, length-append}
 use borrow.Author.Tests.{eq-eqb, ne-eqb, eqb-true, eqb-false}
 use Rattle.rules.specs.Lists.{table, memb as isIn, Once, isZero, tick, count, sumBelow, sumOf, Pair, times}
 use Rattle.rules.specs.Sizes.{mostJobs, mostOwners, mostEntries, mostFixed}
-use Rattle.rules.specs.Routes.{Plan, Route, Stop, Heads, outs, live, holders, routeOf, emptyRoute, jobsOf, turned, inForce}
+use Rattle.rules.specs.Routes.{Plan, Route, Stop, Heads, outs, live, holders, routeOf, emptyRoute, jobsOf, turned, inForce, violationsOf}
+use Rattle.rules.specs.Scores.{assigned}
 use Rattle.rules.proofs.Ranges.{Test, pass, fail, test, clash, same, lt-or-le, less-other, less-self, count-less, count-same, count-none}
 use Rattle.rules.proofs.Members.{or-true, or-false}
 use Rattle.rules.proofs.Tabled.{table-length, table-at, table-past, map-table, list-table}
@@ -246,8 +247,8 @@ module _ (p : Plan) (S : Sound p) where
     owners = table-length mostOwners (routeOf p);
     room = subst (λ (k : ℕ). k ≤ 1024) (sym stops-length) (S .room);
     low = low;
-    violated = table-length mostOwners _;
-    assigned = table-length mostJobs _;
+    violated = table-length mostOwners (λ o. violationsOf (p .base) o (routeOf p o));
+    assigned = table-length mostJobs (assigned (p .desk .routes));
     once = S .once;
     small = λ v e. let a = S .waits v e in let b = S .loaded .owners in omega arith;
   }
