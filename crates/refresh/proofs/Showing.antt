@@ -1,0 +1,134 @@
+-- The verdict call: what is shown of a plan, and how its promise is kept. Assumes nothing.
+use Prim.Native.Nat.{ℕ, zero, suc, _≤_, _<_}
+use native.Mathlib.Omega.{arith}
+use mathlib.Core.Path.{_≡_, refl, sym, ap, subst, _∙_}
+use mathlib.Core.Bool.{false}
+use mathlib.Core.Option.{Option, none, some}
+use mathlib.Core.List.{List}
+use lib.ListN.{length, take}
+use lib.Seq.{sets, length-sets, length-take-le}
+use borrow.Author.Tests.{lt-ltb, le-ltb}
+use Rattle.rules.specs.declared.Plan.{Plan as Counts}
+use Rattle.rules.specs.declared.Refusal.{Refusal}
+use Rattle.rules.specs.declared.Refusal.the-variants.{ShortAnswer}
+use Rattle.rules.specs.Sizes.{isShort}
+use Rattle.rules.specs.Routes.{Plan}
+use Rattle.rules.specs.Shown.{order, cycle, shownLineUp, shownCycle}
+use Rattle.rules.specs.Calls.{to-verdict, Reply, refused, lined-up, cycled, verdictOf, accepted}
+use Rattle.rules.proofs.Puts.{Sound}
+use Rattle.edges.specs.Edges.{Model, Holds}
+use Rattle.routes.specs.Desks.{edgesOf}
+use Rattle.graphs.specs.Graph.{live as liveIn, Below}
+use Rattle.kernels.specs.declared.rows.Tail.{Tail}
+use Rattle.kernels.specs.declared.rows.Tail.the-variants.{Is as Upto, Bad as Lost}
+use Rattle.kernels.specs.declared.lines.Lined.{Lined}
+use Rattle.kernels.specs.declared.lines.Lined.the-variants.{All, Stuck, Bad as Broken}
+use Rattle.kernels.specs.Lowests.{Lowest, Shown}
+use Rattle.kernels.specs.Cycles.{Cycles, Looped}
+use Rattle.refresh.specs.declared.header.Header.{Header}
+use Rattle.refresh.specs.declared.header.Header.the-variants.{Is as Headed, Refused as Unopened}
+use Rattle.refresh.specs.declared.verdict.Judged.{Judged}
+use Rattle.refresh.specs.declared.verdict.Judged.the-variants.{LineUp, Cycle}
+use Rattle.refresh.specs.Headers.{openOf}
+use Rattle.refresh.specs.Promise.{Slices, lentOf, Held, answerOf, Decided, Promise}
+use Rattle.refresh.specs.Says.{places}
+use Rattle.refresh.specs.Shows.{saysVerdict, Showing, Shows, Closing}
+use Rattle.refresh.proofs.Tabled.{places-take, taken-sets}
+use Rattle.refresh.proofs.Promises.{decided-refused, refusal-long, decided-read, closed-kept, opened-kept}
+use Rattle.times.proofs.Graphing.{below}
+use Rattle.times.proofs.Judging.{order-is, cycle-is}
+
+-- ── what is shown ──
+
+-- the answer buffer begins with what was written
+placed : (out l : List ℕ) (k : ℕ) → k ≤ length l → k ≤ length out → places k (sets out 0 (take k l)) ≡ take k l
+placed out l k h i =
+    places-take k (sets out 0 (take k l)) (let a = length-sets out 0 (take k l) in omega arith)
+    ∙ taken-sets out (take k l) k (length-take-le k l h) i
+
+below-at : (p : Plan) → Sound p → (n : ℕ) → n ≡ p .base .jobs → Below n (edgesOf p)
+below-at p S n j = subst (λ (k : ℕ). Below k (edgesOf p)) (sym j) (below p S)
+
+module _ {e o′ : List ℕ} {n : ℕ} {r : Tail} (C : Cycles e n r o′) (out : List ℕ) where
+  module _ (p : Plan) (S : Sound p) (H : Holds e (edgesOf p)) (j : n ≡ p .base .jobs) where
+    looped : Looped (edgesOf p) n o′ r
+    looped = C .is (edgesOf p) H (below-at p S n j)
+
+    looped-at : (k : ℕ) → r ≡ Upto k → Looped (edgesOf p) n o′ (Upto k)
+    looped-at k q = rw q at looped
+
+    cycle-shown : (c : Option (List ℕ)) → cycle n (liveIn (edgesOf p)) ≡ c → shownCycle p ≡ c
+    cycle-shown c x = sym (cycle-is p S) ∙ ap (λ (k : ℕ). cycle k (liveIn (edgesOf p))) (sym j) ∙ x
+
+    cycled-is : (k : ℕ) → Looped (edgesOf p) n o′ (Upto k) → length o′ ≡ 512 → k ≤ 512 → k ≤ length out → shownLineUp p ≡ none
+        → {out′ : List ℕ} → out′ ≡ sets out 0 (take k o′) → Showing p out (Cycle k) out′
+    unfolding places
+    cycled-is zero L len h i x w = record { says = rw (x, cycle-shown none L); answers = w }
+    cycled-is (suc k) (a, L) len h i x {out′} w =
+        let y : places (suc k) out′ ≡ take (suc k) o′ = ap (places (suc k)) w ∙ placed out o′ (suc k) (omega arith) i in
+        record { says = rw (x, cycle-shown _ L) (ap cycled y); answers = w ∙ ap (sets out 0) (sym y) }
+
+  pub closing-bad : r ≡ Lost → {v : Judged} {out′ : List ℕ} → Closing e n out v out′
+  closing-bad q = record { is = λ p S H j x. absurd (rw q at (looped p S H j)) }
+
+  pub closing-long : (k : ℕ) → r ≡ Upto k → n < k → {v : Judged} {out′ : List ℕ} → Closing e n out v out′
+  closing-long k q h = record { is = λ p S H j x. absurd (go (edgesOf p) k h (looped-at p S H j k q)) }
+    where
+      go : (m : Model) (k : ℕ) → n < k → Looped m n o′ (Upto k) → ⊥
+      go m zero h L = omega arith
+      go m (suc k) h (a, L) = omega arith
+
+  pub closing-shown : (k : ℕ) → r ≡ Upto k → k ≤ n → n ≤ 512 → n ≤ length out → length o′ ≡ 512 → {out′ : List ℕ}
+      → out′ ≡ sets out 0 (take k o′) → Closing e n out (Cycle k) out′
+  closing-shown k q h i l len w = record {
+    is = λ p S H j x. cycled-is p S H j k (looped-at p S H j k q) len (omega arith) (omega arith) x w;
+  }
+
+module _ {e o′ : List ℕ} {n : ℕ} {r : Lined} (L : Lowest e n r o′) (out : List ℕ) where
+  module _ (p : Plan) (S : Sound p) (H : Holds e (edgesOf p)) (j : n ≡ p .base .jobs) where
+    lined : Shown (edgesOf p) n o′ r
+    lined = L .is (edgesOf p) H (below-at p S n j)
+
+    line-up-shown : (c : Option (List ℕ)) → order n (liveIn (edgesOf p)) ≡ c → shownLineUp p ≡ c
+    line-up-shown c x = sym (order-is p S) ∙ ap (λ (k : ℕ). order k (liveIn (edgesOf p))) (sym j) ∙ x
+
+  pub shows-bad : r ≡ Broken → {v : Judged} {out′ : List ℕ} → Shows e n out v out′
+  shows-bad q = record { is = λ p S H j. absurd (rw q at (lined p S H j)) }
+
+  pub shows-closed : r ≡ Stuck → {v : Judged} {out′ : List ℕ} → Closing e n out v out′ → Shows e n out v out′
+  shows-closed q C = record { is = λ p S H j. C .is p S H j (line-up-shown p S H j none (rw q at (lined p S H j))) }
+
+  pub shows-lined : r ≡ All → n ≤ 512 → n ≤ length out → length o′ ≡ 512 → {out′ : List ℕ} → out′ ≡ sets out 0 (take n o′)
+      → Shows e n out (LineUp n) out′
+  shows-lined q i l len {out′} w = record {
+    is = λ p S H j.
+        let x = line-up-shown p S H j (some (take n o′)) (rw q at (lined p S H j)) in
+        let y : places n out′ ≡ take n o′ = ap (places n) w ∙ placed out o′ n (omega arith) l in
+        record { says = rw x (ap lined-up y); answers = w ∙ ap (sets out 0) (sym y) };
+  }
+
+-- ── the call ──
+
+module _ (s : Slices) (out : List ℕ) {h : Header} (opens : h ≡ openOf (lentOf s) (s .base)) where
+  pub verdict-closed : {r : Refusal} → h ≡ Unopened r → Promise (to-verdict (length out)) s s out out (refused r)
+  verdict-closed = closed-kept (to-verdict (length out)) s opens out refl
+
+  module _ {plan : Counts} (is : h ≡ Headed plan) where
+    pub verdict-few : length out < plan .jobs → Promise (to-verdict (length out)) s s out out (refused ShortAnswer)
+    verdict-few k = opened-kept (to-verdict (length out)) s opens s out out (refused ShortAnswer) is (λ f p H q.
+        decided-refused (some p) (to-verdict (length out)) s out ShortAnswer
+        (refusal-long (some p) (to-verdict (length out)) s f ∙ rw (lt-ltb (length out) (p .base .jobs) (rw q at k))))
+
+    some-verdict : isShort (lentOf s) ≡ false → (p : Plan) → Held s p → p .base .jobs ≤ length out → (r : Reply)
+        → r ≡ verdictOf (shownLineUp p) (shownCycle p) → Decided (some p) (to-verdict (length out)) s s out (sets out 0 (answerOf r)) r
+    unfolding accepted
+    some-verdict f p H k r e = decided-read p (to-verdict (length out)) s H
+        (refusal-long (some p) (to-verdict (length out)) s f ∙ rw (le-ltb (length out) (p .base .jobs) k)) out r refl (sym e)
+
+    pub verdict-shown : {n : ℕ} {v : Judged} {out′ : List ℕ} → n ≡ plan .jobs → n ≤ length out
+        → Shows (take 13314 (s .edges)) n out v out′ → Promise (to-verdict (length out)) s s out out′ (saysVerdict out′ v)
+    verdict-shown {n} {v} {out′} m k X = opened-kept (to-verdict (length out)) s opens s out out′ (saysVerdict out′ v) is (λ f p H q.
+        let m′ : n ≡ p .base .jobs = m ∙ ap (λ (c : Counts). c .jobs) q in
+        let x = X .is p (H .desk .sound) (H .desk .edges) m′ in
+        let d = some-verdict f p H (rw m′ at k) (saysVerdict out′ v) (x .says) in
+        record { says = d .says; leaves = d .leaves; answers = x .answers })

@@ -1,0 +1,93 @@
+// The shown line-up, or the shown cycle.
+use crate::header::Header;
+use crate::header::broad;
+use crate::header::opened;
+use kernels::cycles::cycle;
+use kernels::lines::Lined;
+use kernels::lowests::lowest_up;
+use kernels::rows::Tail;
+use rules::Refusal;
+ghost use mathlib.Core.Path.{_≡_};
+ghost use Prim.Native.Nat.{_≤_};
+ghost use lib.ListN.{length, take};
+ghost use lib.Seq.{sets};
+ghost use Rattle.rules.specs.Calls.{to-verdict};
+ghost use Rattle.refresh.specs.Promise.{Promise, slices};
+ghost use Rattle.refresh.specs.Shows.{Closing, Shows, saysVerdict};
+
+pub enum Judged {
+    LineUp(usize),
+    Cycle(usize),
+    Refused(Refusal),
+}
+
+// The first k jobs, as numbers of the answer.
+fn show(out: &mut [u32], jobs: &[u16], k: usize)
+    requires { ⌜ (k ≤ length (now out)) × (k ≤ length (now jobs)) ⌝ }
+    ensures { λ _. ⌜ now (out .exit) ≡ sets (now (out .entry)) 0 (take k (now (jobs .entry))) ⌝ }
+{
+    let mut i: usize = 0;
+    while i < k {
+        out[i] = jobs[i] as u32;
+        i += 1;
+    }
+}
+
+// There is no line-up: the cycle.
+fn closed(edges: &[u16], n: usize, out: &mut [u32]) -> Judged
+    requires { ⌜ (length (now edges) ≡ 13314) × (n ≤ 512) × (n ≤ length (now out)) ⌝ }
+    ensures { λ r. ⌜ Closing (now (edges .entry)) n (now (out .entry)) r (now (out .exit)) ⌝ }
+{
+    let mut jobs = [0u16; 512];
+    match cycle(edges, n, &mut jobs) {
+        Tail::Bad => Judged::Refused(Refusal::BadStore),
+        Tail::Is(k) => {
+            if n < k {
+                return Judged::Refused(Refusal::BadStore);
+            }
+            show(out, &jobs, k);
+            Judged::Cycle(k)
+        }
+    }
+}
+
+// The line-up, or the cycle.
+fn shown(edges: &[u16], n: usize, out: &mut [u32]) -> Judged
+    requires { ⌜ (length (now edges) ≡ 13314) × (n ≤ 512) × (n ≤ length (now out)) ⌝ }
+    ensures { λ r. ⌜ Shows (now (edges .entry)) n (now (out .entry)) r (now (out .exit)) ⌝ }
+{
+    let mut jobs = [0u16; 512];
+    match lowest_up(edges, n, &mut jobs) {
+        Lined::Bad => Judged::Refused(Refusal::BadStore),
+        Lined::All => {
+            show(out, &jobs, n);
+            Judged::LineUp(n)
+        }
+        Lined::Stuck => closed(edges, n, out),
+    }
+}
+
+pub fn verdict(
+    base: &[u32],
+    spans: &[u64],
+    edges: &[u16],
+    routes: &[u16],
+    times: &[u64],
+    out: &mut [u32],
+) -> Judged
+    ensures { λ r. ⌜ Promise (to-verdict (length (now (out .entry))))
+        (slices (now (base .entry)) (now (spans .entry)) (now (edges .entry)) (now (routes .entry)) (now (times .entry)))
+        (slices (now (base .entry)) (now (spans .entry)) (now (edges .entry)) (now (routes .entry)) (now (times .entry)))
+        (now (out .entry)) (now (out .exit)) (saysVerdict (now (out .exit)) r) ⌝ }
+{
+    match opened(base, spans.len(), edges.len(), routes.len(), times.len()) {
+        Header::Refused(r) => Judged::Refused(r),
+        Header::Is(plan) => {
+            let n = broad(plan.jobs);
+            if out.len() < n {
+                return Judged::Refused(Refusal::ShortAnswer);
+            }
+            shown(&edges[..13314], n, out)
+        }
+    }
+}

@@ -1,0 +1,108 @@
+-- The kernels' walk, from the words of a plan and of the put's edges, is the rules' walk of the put. Assumes nothing.
+use Prim.Native.Nat.{ℕ, _≤_, _<_}
+use mathlib.Core.Path.{_≡_, refl, sym, ap, subst, _∙_, fun-ext}
+use mathlib.Core.Bool.{true, false}
+use mathlib.Core.List.{List}
+use native.Mathlib.Omega.{arith}
+use lib.ListN.{length}
+use Rattle.rules.specs.declared.Report.the-variants.{Skipped, Full, CycleFound, Incremental}
+use Rattle.rules.specs.Lists.{isEmpty, table}
+use Rattle.rules.specs.Sizes.{duration, mostJobs, mostEntries}
+use Rattle.rules.specs.Graphs.{Graph}
+use Rattle.rules.specs.Routes.{Plan, live, putPlan, inForce}
+use Rattle.rules.specs.Scores.{best, starts, floorOf, isCyclic}
+use Rattle.rules.specs.Reports.{walk, tri, seeds, putWalk, putReport, Outcome}
+use Rattle.rules.proofs.Plans.{ranks-of, starts-solve}
+use Rattle.rules.proofs.Starts.{best-edges}
+use Rattle.rules.proofs.Orders.{Ranks}
+use Rattle.rules.proofs.Puts.{Sound, put-sound, seeds-once, seeds-low, seeds-all, skipped-same}
+use Rattle.rules.proofs.Reported.{put-starts}
+use Rattle.rules.proofs.Bounds.{finish-few}
+use Rattle.edges.specs.Edges.{Model, Holds}
+use Rattle.routes.specs.Desks.{edgesOf}
+use Rattle.graphs.specs.Graph.{outOf, at, zeros}
+use Rattle.graphs.specs.Sound.{Seeded, Sound as Walkable}
+use Rattle.times.specs.Words.{spanWords, timeWords, startOf}
+use Rattle.times.proofs.Graphing.{out-fun, live-fun, below, span-fun, spans-short, start-fun}
+use Rattle.times.proofs.Timing.{same-words}
+
+module _ (p : Plan) (o : ℕ) (l : List ℕ) (S : Sound p) (h : o < p .base .owners) (few : length l ≤ mostEntries)
+    (room : inForce (putPlan p o l .desk .routes) ≤ mostEntries) where
+  pub after-sound : Sound (putPlan p o l)
+  after-sound = put-sound p o l S h few room
+
+  pub same-base : putPlan p o l .base ≡ p .base
+  unfolding putPlan
+  same-base = refl
+
+  -- "skipped, if no edge appeared or vanished": the times stay
+  pub skipped-words : isEmpty (seeds p o l) ≡ true → timeWords (putPlan p o l) ≡ timeWords p
+  skipped-words e = same-words (putPlan p o l) p same-base (sym (fun-ext (λ u. fun-ext (λ v. skipped-same p o l S h few e u v))))
+
+  -- ── the walk ──
+
+  abbrev m′ : Model
+  m′ = edgesOf (putPlan p o l)
+
+  abbrev sp : List ℕ
+  sp = spanWords (p .base)
+
+  abbrev st : List ℕ
+  st = table mostJobs (startOf p)
+
+  module _ (calm : isCyclic p ≡ false) where
+    pub seeded : Seeded (p .base .jobs) m′ sp st (seeds p o l)
+    unfolding putPlan
+    seeded = record {
+      once = seeds-once p o l S h few;
+      low = seeds-low p o l S h few;
+      calm = λ v k e.
+          ap (λ (f : ℕ → ℕ). f v) (start-fun p S calm)
+          ∙ starts-solve p calm v k
+          ∙ best-edges (p .base .jobs) (live p) (live (putPlan p o l)) (floorOf (p .base)) (duration (p .base)) (starts p) v
+          (λ u i. seeds-all p o l S h few u v e)
+          ∙ sym (λ i. best (p .base .jobs) (live-fun (putPlan p o l) after-sound i) zeros (span-fun p S i) (start-fun p S calm i) v);
+      small = λ v k. let a = finish-few p S calm v k in let b = ap (λ (f : ℕ → ℕ). f v) (start-fun p S calm) in omega arith;
+    }
+
+    module _ (calm′ : isCyclic (putPlan p o l) ≡ false) (e : List ℕ) (H : Holds e m′) where
+      pub walkable : (r : ℕ → ℕ) × Walkable e sp (p .base .jobs) m′ r
+      unfolding putPlan
+      walkable = let (r, R) = ranks-of (putPlan p o l) calm′ in (
+        r,
+        record {
+          holds = H;
+          below = below (putPlan p o l) after-sound;
+          spans = spans-short p S;
+          ranks = subst (λ (E : Graph). Ranks (p .base .jobs) E r) (sym (live-fun (putPlan p o l) after-sound)) R;
+        },
+      )
+
+      pub walk-is : walk (p .base .jobs) (outOf m′) zeros (at sp) (tri (p .base .jobs)) (seeds p o l) (at st) ≡ putWalk p o l
+      unfolding putWalk putPlan
+      walk-is = λ i. walk (p .base .jobs) (out-fun (putPlan p o l) after-sound i) zeros (span-fun p S i) (tri (p .base .jobs)) (seeds p o l) (start-fun p S calm i)
+
+      -- the starts that it leaves
+      pub mended-starts : (st′ : List ℕ) → at st′ ≡ walk (p .base .jobs) (outOf m′) zeros (at sp) (tri (p .base .jobs)) (seeds p o l) (at st) .starts
+          → (v : ℕ) → v < p .base .jobs → at st′ v ≡ starts (putPlan p o l) v
+      mended-starts st′ q v k =
+          ap (λ (f : ℕ → ℕ). f v) (q ∙ ap (λ (o : Outcome). o .starts) walk-is) ∙ put-starts p o l S h few room calm calm′ v k
+
+  -- ── the report, by its cases ──
+
+  pub report-skipped : isEmpty (seeds p o l) ≡ true → putReport p o l ≡ Skipped
+  unfolding putReport
+  report-skipped e = rw e
+
+  pub report-full : isEmpty (seeds p o l) ≡ false → isCyclic p ≡ true → putReport p o l ≡ Full
+  unfolding putReport
+  report-full e c = rw (e, c)
+
+  pub report-found : isEmpty (seeds p o l) ≡ false → isCyclic p ≡ false → isCyclic (putPlan p o l) ≡ true → putReport p o l ≡ CycleFound
+  unfolding putReport
+  report-found e c d = rw (e, c, d)
+
+  pub report-walked : isEmpty (seeds p o l) ≡ false → isCyclic p ≡ false → isCyclic (putPlan p o l) ≡ false
+      → putReport p o l ≡ Incremental (putWalk p o l .visits)
+  unfolding putReport
+  report-walked e c d = rw (e, c, d)

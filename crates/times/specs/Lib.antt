@@ -1,0 +1,3 @@
+-- What the times promise. Assumes nothing.
+pub mod Words
+pub mod Settles

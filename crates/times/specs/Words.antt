@@ -1,0 +1,21 @@
+-- The words of a plan's durations and times. Assumes nothing.
+use Prim.Native.Nat.{ℕ}
+use mathlib.Core.Bool.{cond}
+use mathlib.Core.List.{List, _∷_}
+use lib.Dec.{ltb}
+use Rattle.rules.specs.Lists.{tick, table}
+use Rattle.rules.specs.Sizes.{Base, duration, mostJobs}
+use Rattle.rules.specs.Routes.{Plan}
+use Rattle.rules.specs.Scores.{isCyclic, makespan, reportedStart}
+
+-- durations
+unfoldable pub spanWords : Base → List ℕ
+spanWords b = table mostJobs (duration b)
+
+-- starts of the jobs there are, 0 beyond
+abbrev pub startOf : Plan → ℕ → ℕ
+startOf p v = cond (ltb v (p .base .jobs)) (reportedStart p v) 0
+
+-- cyclic, makespan, starts
+unfoldable pub timeWords : Plan → List ℕ
+timeWords p = tick (isCyclic p) 0 ∷ makespan p ∷ table mostJobs (startOf p)
