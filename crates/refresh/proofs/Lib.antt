@@ -14,4 +14,6 @@ pub mod Laying
 pub mod Showing
 pub mod Lengths
 pub mod Histories
+pub mod Fresh
+pub mod Accepting
 pub mod Unique

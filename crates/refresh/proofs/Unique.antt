@@ -8,8 +8,9 @@ use lib.ListN.{length}
 use lib.Seq.{sets}
 use Rattle.rules.specs.declared.Refusal.{Refusal}
 use Rattle.rules.specs.declared.Score.{Score}
+use Rattle.rules.specs.Sizes.{Loading}
 use Rattle.rules.specs.Routes.{State}
-use Rattle.rules.specs.Calls.{Ask, Reply, refused, scored, to-score, to-reset, to-starts, to-verdict, to-retract}
+use Rattle.rules.specs.Calls.{Ask, Reply, refused, scored, to-load, to-score, to-reset, to-starts, to-verdict, to-retract}
 use Rattle.refresh.specs.declared.score.Scored.{Scored}
 use Rattle.refresh.specs.declared.score.Scored.the-variants.{Is, Refused}
 use Rattle.refresh.specs.declared.score.Counted.{Counted}
@@ -93,6 +94,10 @@ judged-same out (Unjudged r) (Unjudged q) e = cc
 pub score-unique : {s : Slices} (t : State) → StandsFor s t → (x y : Counted) → Reads to-score s (saysCounted x)
     → Reads to-score s (saysCounted y) → x ≡ y
 score-unique t h x y p q = counted-same x y (unique t h p q .0)
+
+pub load-unique : {l : Loading} {s s₁ s₂ : Slices} (x y : Scored) → AnyPromise (to-load l) s s₁ (saysScored x)
+    → AnyPromise (to-load l) s s₂ (saysScored y) → (x ≡ y) × (s₁ ≡ s₂)
+load-unique x y p q = let (a, b) = unique-any p q in (scored-same x y a, b)
 
 pub reset-unique : {s s₁ s₂ : Slices} (x y : Ended) → AnyPromise to-reset s s₁ (saysEnded x) → AnyPromise to-reset s s₂ (saysEnded y)
     → (x ≡ y) × (s₁ ≡ s₂)

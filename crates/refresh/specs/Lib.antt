@@ -7,3 +7,4 @@ pub mod Says
 pub mod Loads
 pub mod Shows
 pub mod History
+pub mod Fills

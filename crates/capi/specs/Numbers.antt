@@ -1,0 +1,82 @@
+-- A reply in numbers, as C reads it. Assumes nothing.
+use Prim.Native.Nat.{ℕ, _<_, _≤_}
+use mathlib.Core.Path.{_≡_}
+use mathlib.Core.Bool.{Bool, cond}
+use mathlib.Core.List.{List, [], _∷_}
+use lib.ListN.{length}
+use lib.Seq.{sets}
+use lib.IntN.{ℤ}
+use Rattle.rules.specs.declared.Report.{Report}
+use Rattle.rules.specs.declared.Report.the-variants.{Skipped, Full, CycleFound, Incremental}
+use Rattle.rules.specs.Reports.{visitsOf}
+use Rattle.rules.specs.Refusals.{numberOf}
+use Rattle.rules.specs.Calls.{Ask, Reply, refused, scored, changed, counted, lined-up, cycled, started, blocked, rerouted}
+use Rattle.refresh.specs.Promise.{Slices}
+use Rattle.refresh.specs.History.{Kept}
+
+-- 0, or the refusal's number
+abbrev pub codeOf : Reply → ℕ
+codeOf (refused r) = numberOf r
+codeOf (scored s) = 0
+codeOf (changed s r) = 0
+codeOf (counted s k) = 0
+codeOf (lined-up l) = 0
+codeOf (cycled l) = 0
+codeOf (started l) = 0
+codeOf (blocked l) = 0
+codeOf (rerouted l q f) = 0
+
+-- the score or the score change, if the reply has one: hard part, soft part
+abbrev pub scoreIn : Reply → List ℤ
+scoreIn (refused r) = []
+scoreIn (scored s) = s .hard ∷ s .soft ∷ []
+scoreIn (changed s r) = s .hard ∷ s .soft ∷ []
+scoreIn (counted s k) = s .hard ∷ s .soft ∷ []
+scoreIn (lined-up l) = []
+scoreIn (cycled l) = []
+scoreIn (started l) = []
+scoreIn (blocked l) = []
+scoreIn (rerouted l q f) = []
+
+-- a report: 0 skipped, 1 full, 2 cycle found, 3 incremental
+abbrev pub reportIn : Report → ℕ
+reportIn Skipped = 0
+reportIn Full = 1
+reportIn CycleFound = 2
+reportIn (Incremental v) = 3
+
+abbrev pub mark : Bool → ℕ
+mark b = cond b 1 0
+
+-- what else the reply says. put: report and visits. score: match count. verdict: 0 for a line-up, 1 for a cycle, and of how many jobs. starts
+-- and blocks: how many. A move: quick check, full check, length of the route.
+abbrev pub toldIn : Reply → List ℕ
+toldIn (refused r) = []
+toldIn (scored s) = []
+toldIn (changed s r) = reportIn r ∷ visitsOf r ∷ []
+toldIn (counted s k) = k ∷ []
+toldIn (lined-up l) = 0 ∷ length l ∷ []
+toldIn (cycled l) = 1 ∷ length l ∷ []
+toldIn (started l) = length l ∷ []
+toldIn (blocked l) = length l ∷ []
+toldIn (rerouted l q f) = mark q ∷ mark f ∷ length l ∷ []
+
+-- the reply's numbers are written, and what lies behind them is not touched
+pub record Written (sc sc′ : List ℤ) (td td′ : List ℕ) (c : ℕ) (r : Reply) : Type 0 where
+  pub code : c ≡ codeOf r
+  pub score : sc′ ≡ sets sc 0 (scoreIn r)
+  pub told : td′ ≡ sets td 0 (toldIn r)
+
+-- nothing is
+pub record Untouched (s s′ : Slices) (out out′ : List ℕ) (sc sc′ : List ℤ) (td td′ : List ℕ) (c : ℕ) : Type 0 where
+  pub code : c ≡ 13
+  pub store : s′ ≡ s
+  pub answer : out′ ≡ out
+  pub score : sc′ ≡ sc
+  pub told : td′ ≡ td
+
+-- 13, which is no number of document 01: the slices for the numbers have fewer than 2 and 3 places. Else the call keeps its promise.
+pub record Answers (a : Ask) (s s′ : Slices) (out out′ : List ℕ) (sc sc′ : List ℤ) (td td′ : List ℕ) (c : ℕ) : Type 0 where
+  pub few-score : length sc < 2 → Untouched s s′ out out′ sc sc′ td td′ c
+  pub few-told : length td < 3 → Untouched s s′ out out′ sc sc′ td td′ c
+  pub keeps : 2 ≤ length sc → 3 ≤ length td → (r : Reply) × Kept a s s′ out out′ r × Written sc sc′ td td′ c r
