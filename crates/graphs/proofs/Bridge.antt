@@ -67,6 +67,11 @@ part-cons a k t l h b w =
     ∙ rw (add-one) (ap (λ (x : ℕ). x ∷ slice (suc k) t (take 4096 (drop a l)))
     (getD-take 4096 (drop a l) k 0 (omega arith) ∙ getD-drop a l k 0))
 
+-- the same, with the word by another name
+pub part-next : (a k t : ℕ) (l : List ℕ) → k < t → t ≤ 4096 → a + 4096 ≤ length l → (w : ℕ) → w ≡ getD l (a + k) 0
+    → part a k t l ≡ w ∷ part a (k + 1) t l
+part-next a k t l h b r w e = part-cons a k t l h b r ∙ ap (λ (u : ℕ). u ∷ part a (k + 1) t l) (sym e)
+
 pub part-none : (a k t : ℕ) (l : List ℕ) → t ≤ k → part a k t l ≡ []
 unfolding part
 part-none a k t l h = let z : length (take t (take 4096 (drop a l))) ≤ k = omega (arith, length-take t (take 4096 (drop a l))) in

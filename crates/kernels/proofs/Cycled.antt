@@ -17,7 +17,7 @@ use Rattle.edges.specs.Edges.{Model, Holds}
 use Rattle.edges.specs.Ends.{Between}
 use Rattle.graphs.specs.Graph.{at, live, Below, outOf, part}
 use Rattle.graphs.specs.Waves.{Distances, Tight, sweep, nearer, nearestOf, lowerOf, lowestOf}
-use Rattle.graphs.proofs.Bridge.{linked, succ-row, part-cons, part-none}
+use Rattle.graphs.proofs.Bridge.{linked, succ-row, part-next, part-none}
 use Rattle.graphs.proofs.Kahn.{memb-self, memb-later}
 use Rattle.graphs.proofs.Shortest as shortest
 use Rattle.kernels.specs.Lines.{Lows}
@@ -43,7 +43,7 @@ module _ (step : ℕ → ℕ → ℕ) where
 
     module _ (long : length e ≡ 13314) (ht : t ≤ 4096) (hk : k < t) (w : ℕ) (ew : w ≡ getD e (513 + k) 0) where
       cons : part 513 k t e ≡ w ∷ part 513 (k + 1) t e
-      cons = part-cons 513 k t e hk ht (omega arith) ∙ ap (λ (u : ℕ). u ∷ part 513 (k + 1) t e) (sym ew)
+      cons = part-next 513 k t e hk ht (omega arith) w ew
 
       pub sweeping-in : Lows n (part 513 f t e) → w < n
       sweeping-in low =
@@ -216,7 +216,6 @@ module _ (e : List ℕ) (v n : ℕ) (d : List ℕ) (hn : n ≤ 512) (hv : v < n)
 
           go : (c : ℕ) → x ≡ c → Closed m n v o' r
           go zero i =
-              let e0 = shortest.no-cycle n (outOf m) v (at d') D low hv (sym ex ∙ i) in
               out r (T .is m H b D (omega arith) (λ p. let f : ⊥ = omega arith in absurd f))
             where
               out : (r : Tail) → Traced m n v x o' r → Closed m n v o' r

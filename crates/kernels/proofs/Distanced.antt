@@ -13,7 +13,7 @@ use Rattle.edges.specs.Edges.{Model, Holds}
 use Rattle.edges.specs.Ends.{Between}
 use Rattle.graphs.specs.Graph.{at, live, Below, preOf, part}
 use Rattle.graphs.specs.Waves.{Wave, Meeting}
-use Rattle.graphs.proofs.Bridge.{linked, pred-row, part-cons, part-none}
+use Rattle.graphs.proofs.Bridge.{linked, pred-row, part-next, part-none}
 use Rattle.graphs.proofs.Waves as waves
 use Rattle.kernels.specs.Cycles.{Met, Meet, Meets, Waved, Behind, Waves, Spreads}
 use Rattle.kernels.specs.declared.rows.Tail.{Tail}
@@ -66,7 +66,7 @@ module _ {e : List ℕ} {f t y n start : ℕ} {q₀ d₀ : List ℕ} {k tail : �
   module _ (long : length e ≡ 13314) (ht : t ≤ 4096) (hk : k < t) (w : ℕ) (ew : w ≡ getD e (9218 + k) 0) {r : Tail} {q' d' : List ℕ}
       (R : Meet w y n tail q d r q' d') where
     cons : part 9218 k t e ≡ w ∷ part 9218 (k + 1) t e
-    cons = part-cons 9218 k t e hk ht (omega arith) ∙ ap (λ (u : ℕ). u ∷ part 9218 (k + 1) t e) (sym ew)
+    cons = part-next 9218 k t e hk ht (omega arith) w ew
 
     step : (E : Graph) (v h x b : ℕ) → y ≡ suc b → Meeting n E v (take start q₀) h x b (part 9218 f t e) (at d₀)
         → Met n E v h x b (part 9218 (k + 1) t e) q' d' r

@@ -11,7 +11,7 @@ use Rattle.rules.specs.Lists.{Once, memb}
 use Rattle.edges.specs.Edges.{Model, Holds}
 use Rattle.graphs.specs.Graph.{at, live, Below, outOf, preOf, part}
 use Rattle.graphs.specs.Degrees.{Kahn}
-use Rattle.graphs.proofs.Bridge.{linked, pred-row, succ-row, part-cons, part-none}
+use Rattle.graphs.proofs.Bridge.{linked, pred-row, succ-row, part-next, part-none}
 use Rattle.graphs.proofs.Kahn as kahn
 use Rattle.edges.specs.Ends.{Between}
 use Rattle.kernels.specs.Rows.{Short}
@@ -111,7 +111,7 @@ module _ {e : List ℕ} {f t n start : ℕ} {o₀ d₀ : List ℕ} {k tail : ℕ
   module _ (long : length e ≡ 13314) (ht : t ≤ 4096) (hk : k < t) (v : ℕ) (ev : v ≡ getD e (513 + k) 0) {r : Tail} {o' d' : List ℕ}
       (R : Relaxes v n tail o d r o' d') where
     cons : part 513 k t e ≡ v ∷ part 513 (k + 1) t e
-    cons = part-cons 513 k t e hk ht (omega arith) ∙ ap (λ (w : ℕ). w ∷ part 513 (k + 1) t e) (sym ev)
+    cons = part-next 513 k t e hk ht (omega arith) v ev
 
     step : (pre : ℕ → List ℕ) (h : ℕ) → Once (part 513 k t e) × Lows n (part 513 k t e) × Kahn pre n (take tail o) h (part 513 k t e) (at d)
         → Once (part 513 (k + 1) t e) × Lows n (part 513 (k + 1) t e) × Kept pre n h (part 513 (k + 1) t e) o' d' r

@@ -20,7 +20,7 @@ use Rattle.edges.specs.Edges.{Model, Holds}
 use Rattle.edges.specs.Ends.{Between}
 use Rattle.graphs.specs.Graph.{at, live, Below, outOf, preOf, part}
 use Rattle.graphs.specs.Degrees.{Kahn, Picked}
-use Rattle.graphs.proofs.Bridge.{linked, succ-row, part-cons, part-none}
+use Rattle.graphs.proofs.Bridge.{linked, succ-row, part-next, part-none}
 use Rattle.graphs.proofs.Kahn.{memb-self, memb-later}
 use Rattle.graphs.proofs.Lowest as lowest
 use Rattle.kernels.specs.Lines.{Lows, Degrees}
@@ -111,7 +111,7 @@ module _ {e : List ℕ} {f t n from : ℕ} {d₀ : List ℕ} {k low : ℕ} {d : 
     rest = part 513 (k + 1) t e
 
     cons : part 513 k t e ≡ v ∷ rest
-    cons = part-cons 513 k t e hk ht (omega arith) ∙ ap (λ (w : ℕ). w ∷ rest) (sym ev)
+    cons = part-next 513 k t e hk ht (omega arith) v ev
 
     step : (pre : ℕ → List ℕ) (l : List ℕ)
         → Once (part 513 k t e) × Lows n (part 513 k t e) × (Picked n pre l (part 513 k t e) (at d) × Clear n low (at d))

@@ -20,7 +20,7 @@ use Rattle.rules.specs.Sizes.{longest}
 use Rattle.edges.specs.Edges.{Model, Holds}
 use Rattle.graphs.specs.Graph.{at, zeros, live, Below, outOf, preOf, part}
 use Rattle.graphs.proofs.Linked.{best-list}
-use Rattle.graphs.proofs.Bridge.{linked, pred-row, part-cons, part-none}
+use Rattle.graphs.proofs.Bridge.{linked, pred-row, part-next, part-none}
 use Rattle.graphs.proofs.Kahn.{memb-self, memb-later}
 use Rattle.edges.specs.Ends.{Between}
 use Rattle.kernels.specs.Pulls.{limit, reachOf, pulled, Low, Pulls, Settles}
@@ -41,7 +41,7 @@ module _ (sp st e : List ℕ) (n t : ℕ) (w : When) (long : 13314 ≤ length e)
   turn : cond (leb n u) Bad (pulled sp st n (reachOf sp st b u) (part 9218 (k + 1) t e)) ≡ w
   unfolding pulled
   turn =
-      let p : part 9218 k t e ≡ u ∷ part 9218 (k + 1) t e = rw eu (part-cons 9218 k t e hk ht (omega arith)) in
+      let p : part 9218 k t e ≡ u ∷ part 9218 (k + 1) t e = part-next 9218 k t e hk ht (omega arith) u eu in
       rw p at i
 
   pub pulled-at : u < n → (x : ℕ) → x ≡ reachOf sp st b u → pulled sp st n x (part 9218 (k + 1) t e) ≡ w

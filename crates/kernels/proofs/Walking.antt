@@ -20,7 +20,7 @@ use Rattle.edges.specs.Edges.{Model, Holds}
 use Rattle.graphs.specs.Graph.{at, zeros, live, Below, part}
 use Rattle.graphs.specs.Queue.{ringed, Queued}
 use Rattle.graphs.specs.Sound.{Sound, Seeded}
-use Rattle.graphs.proofs.Bridge.{linked, succ-row, part-cons, part-none}
+use Rattle.graphs.proofs.Bridge.{linked, succ-row, part-next, part-none}
 use Rattle.graphs.proofs.Kahn as kahn
 use Rattle.graphs.proofs.Ring as ring
 use Rattle.graphs.proofs.Midway as mid
@@ -101,7 +101,7 @@ module _ {e : List ℕ} {f t n head start : ℕ} {a₀ mark₀ : List ℕ} {k le
   module _ (long : length e ≡ 13314) (ht : t ≤ 4096) (hk : k < t) (v : ℕ) (ev : v ≡ getD e (513 + k) 0) {r : Tail} {a' mark' : List ℕ}
       (R : Joins (v ∷ []) n head len a mark r a' mark') where
     cons : part 513 k t e ≡ v ∷ part 513 (k + 1) t e
-    cons = part-cons 513 k t e hk ht (omega arith) ∙ ap (λ (w : ℕ). w ∷ part 513 (k + 1) t e) (sym ev)
+    cons = part-next 513 k t e hk ht (omega arith) v ev
 
     one : Lows n (part 513 k t e) → Lows n (v ∷ [])
     one b w x = let b' : Lows n (v ∷ part 513 (k + 1) t e) = rw cons at b in

@@ -1,4 +1,5 @@
-// The graph kernels over the edges' slice: earliest starts, line-ups, the walk, the shown cycle. Any contents are safe: what makes no sense is `Bad`.
+// The graph kernels over the edges' slice: earliest starts, line-ups, the walk, the shown cycle.
+// Any contents are safe: what makes no sense is `Bad`.
 
 pub mod cycles;
 pub mod fulls;

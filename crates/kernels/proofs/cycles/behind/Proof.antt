@@ -56,13 +56,10 @@ same-length-2 c = search needs
 returns-3 : tie.Need-returns-3
 returns-3 c =
     let back = c .before .before .before .before .before .before .before .before .before .before in
+    let start = back .before .before .before .before .before .before in
     let the-ends = c .before .before .before .before .before .before .before .before .before .before .ends in
     let the-f = c .before .before .before .before .before .before .before .before .f in
     let the-meets = c .before .before .before .before .meets in
-    let start = back .before .before .before .before .before .before in
-    let the-ends = the-ends in
-    let the-f = the-f in
-    let the-meets = the-meets in
     let p = start .pre in
     let row = between (the-ends .ensures) (the-f .given .1) in
     Distanced.behind-meets _ _ _ _ _ _ (p .1) (p .3) (p .4) (p .5) _ _ _ refl row (the-meets .ensures)

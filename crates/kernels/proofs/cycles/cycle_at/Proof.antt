@@ -39,13 +39,10 @@ same-length c = search needs
 returns-2 : tie.Need-returns-2
 returns-2 c =
     let back = c .before .before .before .before .before .before .before .before .before .before in
+    let start = back .before .before .before in
     let the-through = c .before .before .before .before .before .before .before .before .before .through in
     let the-d = c .before .before .before .before .before .before .d in
     let the-trace = c .before .before .trace in
-    let start = back .before .before .before in
-    let the-through = the-through in
-    let the-d = the-d in
-    let the-trace = the-trace in
     let p = start .pre in
     Cycled.closes-is _ _ _ _ (p .1) (p .2) (λ u h. getD-replicate 512 u 0 0 (omega (arith, p .1))) (the-through .ensures) _
     (the-d .given .1) (the-trace .ensures)

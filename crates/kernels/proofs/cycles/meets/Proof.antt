@@ -44,13 +44,10 @@ same-length-2 c = search needs
 returns : tie.Need-returns Inv-loop μ-loop
 returns c =
     let back = c .before .before .before .before .before .before .before .before .before .before in
+    let start = back .before .before .before .before .before in
     let the-loop = c .before .before .before .before .before .before .before .before .before .before .before .loop in
     let the-loop-test = c .before .before .before .before .before .before .before .before .before .before .loop-test in
     let the-meet = c .before .before .before .before .before .before .meet in
-    let start = back .before .before .before .before .before in
-    let the-loop = the-loop in
-    let the-loop-test = the-loop-test in
-    let the-meet = the-meet in
     let the-enum-told = c .enum-told in
     let p = start .pre in
     Distanced.wading-bad (the-loop .inv .3) (p .0) (p .5) (the-loop-test .taken) _ refl (the-meet .ensures) (the-enum-told .given .1)
@@ -67,15 +64,11 @@ loop-less c = search needs
 loop-again : tie.Need-loop-again Inv-loop μ-loop
 loop-again c =
     let back = c .before .before .before .before .before .before .before .before .before .before in
+    let start = back .before .before .before .before .before .before in
     let the-loop = c .before .before .before .before .before .before .before .before .before .before .before .before .loop in
     let the-meet = c .before .before .before .before .before .before .before .meet in
     let the-x = c .before .x in
     let the-loop-test = c .before .before .before .before .before .before .before .before .before .before .before .loop-test in
-    let start = back .before .before .before .before .before .before in
-    let the-loop = the-loop in
-    let the-meet = the-meet in
-    let the-x = the-x in
-    let the-loop-test = the-loop-test in
     let p = start .pre in
     let i = the-loop .inv in (
       the-meet .kept .0 ∙ i .0,

@@ -60,13 +60,10 @@ same-length-4 c = search needs
 returns-2 : tie.Need-returns-2 Inv-loop μ-loop
 returns-2 c =
     let back = c .before .before .before .before .before .before .before .before .before .before in
+    let the-loop = back .before .before .before .loop in
     let the-loop-test = c .before .before .before .before .before .before .before .before .before .before .before .before .loop-test in
     let the-wide = c .before .before .before .before .before .before .before .before .before .before .wide in
     let the-behind = c .before .before .before .before .before .before .behind in
-    let the-loop = back .before .before .before .loop in
-    let the-loop-test = the-loop-test in
-    let the-wide = the-wide in
-    let the-behind = the-behind in
     let the-enum-told = c .enum-told in
     let i = the-loop .inv in
     Distanced.spreading-bad (i .3) (i .0) (i .2) (the-loop-test .taken) _ (the-wide .ensures) (the-behind .ensures)
@@ -84,14 +81,11 @@ loop-less c = search needs
 loop-again : tie.Need-loop-again Inv-loop μ-loop
 loop-again c =
     let back = c .before .before .before .before .before .before .before .before .before .before in
+    let the-loop = back .before .before .before .before .loop in
     let the-behind = c .before .before .before .before .before .before .before .behind in
     let the-x = c .before .x in
-    let the-wide = c .before .before .before .before .before .before .before .before .before .before .before .wide in
-    let the-loop = back .before .before .before .before .loop in
-    let the-behind = the-behind in
-    let the-x = the-x in
     let the-loop-test = back .before .before .before .loop-test in
-    let the-wide = the-wide in
+    let the-wide = c .before .before .before .before .before .before .before .before .before .before .before .wide in
     let i = the-loop .inv in (
       the-behind .kept .1 .0 ∙ i .0,
       the-behind .kept .1 .1 .0 ∙ i .1,

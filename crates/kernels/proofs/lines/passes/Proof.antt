@@ -50,15 +50,11 @@ same-length-2 c = search needs
 returns-3 : tie.Need-returns-3
 returns-3 c =
     let back = c .before .before .before .before .before .before .before .before .before .before .before .before in
+    let start = back .before .before .before .before in
     let the-wide = c .before .before .before .before .before .before .before .before .before .before .before .before .wide in
     let the-ends = c .before .before .before .before .before .before .before .before .before .before .ends in
     let the-f = c .before .before .before .before .before .before .before .before .f in
     let the-relaxes = c .before .before .before .before .relaxes in
-    let start = back .before .before .before .before in
-    let the-wide = the-wide in
-    let the-ends = the-ends in
-    let the-f = the-f in
-    let the-relaxes = the-relaxes in
     let p = start .pre in Lined.pass-tells _ _ _ _ _ _ _ (the-wide .ensures) (p .1) (p .3) (p .4) _ _
     (between (the-ends .ensures) (the-f .given .1)) (the-relaxes .ensures)
 

@@ -62,15 +62,11 @@ loop-less c = search needs
 loop-again : tie.Need-loop-again Inv-loop μ-loop
 loop-again c =
     let back = c .before .before .before .before .before .before .before .before .before .before .before .before in
+    let start = back .before .before .before .before in
     let the-relax = c .before .before .before .before .before .before .before .relax in
     let the-loop = c .before .before .before .before .before .before .before .before .before .before .before .before .loop in
     let the-x = c .before .x in
     let the-loop-test = c .before .before .before .before .before .before .before .before .before .before .before .loop-test in
-    let start = back .before .before .before .before in
-    let the-relax = the-relax in
-    let the-loop = the-loop in
-    let the-x = the-x in
-    let the-loop-test = the-loop-test in
     let p = start .pre in (
       the-relax .kept .0 ∙ the-loop .inv .0,
       the-relax .kept .1 .0

@@ -71,15 +71,11 @@ same-length-4 c = search needs
 returns-4 : tie.Need-returns-4
 returns-4 c =
     let back = c .before .before .before .before .before .before .before .before .before .before in
+    let start = back .before .before .before .before .before .before in
     let the-if1 = c .before .before .before .before .before .before .before .before .before .before .before .before .if1 in
     let the-find = c .before .before .before .before .before .before .before .before .before .before .find in
     let the-p = c .before .before .before .before .before .before .before .before .p in
     let the-leave = c .before .before .before .before .leave in
-    let start = back .before .before .before .before .before .before in
-    let the-if1 = the-if1 in
-    let the-find = the-find in
-    let the-p = the-p in
-    let the-leave = the-leave in
     let the-enum-told2 = c .enum-told2 in
     let p = start .pre in
     Lowed.pick-bad _ _ _ _ _ _ (p .1) (p .2) (p .3) (p .4) (the-if1 .left) _ (the-find .ensures) _ (the-p .given .1) (the-leave .ensures)
@@ -94,16 +90,12 @@ same-length-6 c = search needs
 returns-5 : tie.Need-returns-5
 returns-5 c =
     let back = c .before .before .before .before .before .before .before .before .before .before in
+    let start = back .before .before .before .before .before .before .before in
+    let the-if1 = back .before .before .before .if1 in
     let the-find = c .before .before .before .before .before .before .before .before .before .before .before .find in
     let the-p = c .before .before .before .before .before .before .before .before .before .p in
     let the-leave = c .before .before .before .before .before .leave in
     let the-x = c .before .x in
-    let start = back .before .before .before .before .before .before .before in
-    let the-if1 = back .before .before .before .if1 in
-    let the-find = the-find in
-    let the-p = the-p in
-    let the-leave = the-leave in
-    let the-x = the-x in
     let p = start .pre in
     Lowed.pick-one _ _ _ _ _ _ (p .1) (p .2) (p .3) (p .4) (the-if1 .left) _ (the-find .ensures) _ (the-p .given .1)
     (the-leave .ensures) _ (the-x .given .1)

@@ -54,11 +54,9 @@ returns-2 c =
     let the-loop = c .before .before .before .before .before .before .before .before .loop in
     let the-enum-told = c .enum-told in
     let the-earliest = c .before .before .earliest in
+    let start = back .before .before .before in
     let the-loop-test = c .before .before .before .before .before .before .before .loop-test in
     let the-wide = c .before .before .before .before .before .wide in
-    let start = back .before .before .before in
-    let the-loop-test = the-loop-test in
-    let the-wide = the-wide in
     let so-far = the-loop .inv .2 in
     let pulled = rw (the-enum-told .given .1) at (the-earliest .ensures) in
     Pulled.sofar-bad _ _ _ _ _ _ _ so-far (start .pre .3) (the-loop-test .taken) (omega arith) _ (the-wide .ensures) pulled
@@ -82,15 +80,11 @@ loop-again : tie.Need-loop-again Inv-loop μ-loop
 loop-again c =
     let back = c .before .before .before .before .before .before .before .before .before .before in
     let the-loop = c .before .before .before .before .before .before .before .before .before .loop in
+    let start = back .before .before .before .before in
     let the-loop-test = c .before .before .before .before .before .before .before .before .loop-test in
     let the-wide = c .before .before .before .before .before .before .wide in
     let the-earliest = c .before .before .before .earliest in
     let the-x = c .before .x in
-    let start = back .before .before .before .before in
-    let the-loop-test = the-loop-test in
-    let the-wide = the-wide in
-    let the-earliest = the-earliest in
-    let the-x = the-x in
     let so-far = the-loop .inv .2 in (
       simp length-set (the-loop .inv .0),
       omega arith,

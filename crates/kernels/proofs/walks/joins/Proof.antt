@@ -63,15 +63,11 @@ loop-less c = search needs
 loop-again : tie.Need-loop-again Inv-loop μ-loop
 loop-again c =
     let back = c .before .before .before .before .before .before .before .before .before .before .before .before in
+    let start = back .before .before .before .before in
     let the-join = c .before .before .before .before .before .before .before .join in
     let the-loop = c .before .before .before .before .before .before .before .before .before .before .before .before .loop in
     let the-x = c .before .x in
     let the-loop-test = c .before .before .before .before .before .before .before .before .before .before .before .loop-test in
-    let start = back .before .before .before .before in
-    let the-join = the-join in
-    let the-loop = the-loop in
-    let the-x = the-x in
-    let the-loop-test = the-loop-test in
     let p = start .pre in (
       the-join .kept .0 ∙ the-loop .inv .0,
       the-join .kept .1 .0

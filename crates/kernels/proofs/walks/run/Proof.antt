@@ -95,11 +95,9 @@ slice-write-mark c = search needs
 visit-requires : tie.Need-visit-requires Inv-loop μ-loop
 visit-requires c κs =
     let back = c .before .before .before .before .before .before .before .before .before .before .before .before in
+    let start = back .before .before .before .before in
     let the-loop = c .before .before .before .before .before .before .before .before .before .loop in
     let the-slot = c .before .before .before .slot in
-    let start = back .before .before .before .before in
-    let the-loop = the-loop in
-    let the-slot = the-slot in
     let p = start .pre in (
       p .0,
       p .1,
@@ -134,17 +132,14 @@ same-length-9 c =
 returns-3 : tie.Need-returns-3 Inv-loop μ-loop
 returns-3 c =
     let back = c .before .before .before .before .before .before .before .before .before .before .before .before in
-    let the-if2 = c .before .before .before .before .before .before .before .before .before .before .before .before .before .if2 in
-    let the-slot = c .before .before .before .before .before .before .before .before .before .before .before .before .slot in
-    let the-visit = c .before .before .before .before .before .before .before .before .visit in
     let far = back .before .before .before .before .before .before .before .before .before .before .before .before in
     let start = far .before in
     let the-loop = back .before .before .before .before .before .before .loop in
     let the-loop-test = back .before .before .before .before .before .loop-test in
     let the-wide = back .before .before .wide in
-    let the-if2 = the-if2 in
-    let the-slot = the-slot in
-    let the-visit = the-visit in
+    let the-if2 = c .before .before .before .before .before .before .before .before .before .before .before .before .before .if2 in
+    let the-slot = c .before .before .before .before .before .before .before .before .before .before .before .before .slot in
+    let the-visit = c .before .before .before .before .before .before .before .before .visit in
     let the-enum-told = c .enum-told in
     let p = start .pre in Walking.running-bad (the-loop .inv .6) (p .5) (the-loop-test .taken) _ (the-wide .ensures) (the-loop .inv .2)
     (omega (arith, p .2, the-loop .inv .0)) (omega (arith, the-if2 .left)) _ (the-slot .ensures) (the-visit .ensures)
@@ -162,20 +157,16 @@ loop-less c = search needs
 loop-again : tie.Need-loop-again Inv-loop μ-loop
 loop-again c =
     let back = c .before .before .before .before .before .before .before .before .before .before .before .before in
-    let the-visit = c .before .before .before .before .before .before .before .before .before .visit in
-    let the-slot = c .before .before .before .before .before .before .before .before .before .before .before .before .before .slot in
-    let the-x = c .before .x in
-    let the-if2 = c .before .before .before .before .before .before .before .before .before .before .before .before .before .before .if2 in
     let far = back .before .before .before .before .before .before .before .before .before .before .before .before in
     let start = far .before .before in
-    let the-visit = the-visit in
+    let the-visit = c .before .before .before .before .before .before .before .before .before .visit in
     let the-loop = back .before .before .before .before .before .before .before .loop in
-    let the-slot = the-slot in
-    let the-x = the-x in
+    let the-slot = c .before .before .before .before .before .before .before .before .before .before .before .before .before .slot in
+    let the-x = c .before .x in
     let the-if1 = back .before .before .before .before .before .if1 in
     let the-loop-test = back .before .before .before .before .before .before .loop-test in
     let the-wide = back .before .before .before .wide in
-    let the-if2 = the-if2 in
+    let the-if2 = c .before .before .before .before .before .before .before .before .before .before .before .before .before .before .if2 in
     let p = start .pre in (
       the-visit .kept .1 .1 .0 ∙ the-loop .inv .0,
       the-visit .kept .1 .1 .1 .0

@@ -64,15 +64,11 @@ same-length-5 c = search needs
 returns-3 : tie.Need-returns-3
 returns-3 c =
     let back = c .before .before .before .before .before .before .before .before .before .before .before .before in
+    let start = back .before .before .before .before .before .before .before in
     let the-earliest = c .before .before .before .before .before .before .before .before .before .before .before .before .earliest in
     let the-x = c .before .before .before .before .before .before .before .before .before .before .x in
     let the-if1 = c .before .before .before .before .before .before .before .if1 in
     let the-follow = c .before .before .before .before .follow in
-    let start = back .before .before .before .before .before .before .before in
-    let the-earliest = the-earliest in
-    let the-x = the-x in
-    let the-if1 = the-if1 in
-    let the-follow = the-follow in
     let p = start .pre in Walking.visit-new _ _ _ _ _ _ _ _ _ (p .5) (p .7) (p .8) (p .2) _ _ (the-earliest .ensures) (the-x .given .1)
     (the-if1 .left) (the-follow .ensures)
 

@@ -44,13 +44,10 @@ same-length-3 c = search needs
 returns-2 : tie.Need-returns-2
 returns-2 c =
     let back = c .before .before .before .before .before .before .before .before .before .before .before .before in
+    let start = back .before .before .before .before .before .before .before in
     let the-enum-told2 = c .before .before .before .before .before .before .before .before .before .enum-told2 in
     let the-marks = c .before .before .before .before .before .before .before .before .before .before .before .before .marks in
     let the-run = c .before .before .before .before .before .run in
-    let start = back .before .before .before .before .before .before .before in
-    let the-enum-told2 = the-enum-told2 in
-    let the-marks = the-marks in
-    let the-run = the-run in
     let p = start .pre in Walking.walk-runs _ _ _ _ _ _ (p .3) (p .5) (λ v h. getD-replicate 512 v 0 0 (omega (arith, p .4))) _
     (the-enum-told2 .given .1) (the-marks .ensures) (the-run .ensures)
 
