@@ -2,10 +2,13 @@
 use crate::numbers::code;
 use crate::numbers::lacks_room;
 use crate::numbers::tell;
+use crate::numbers::tell_report;
 use crate::numbers::tell_two;
 use crate::numbers::write;
 use crate::numbers::zero;
 use refresh::load::load;
+use refresh::put::Changed;
+use refresh::put::put;
 use refresh::reset::Ended;
 use refresh::reset::reset;
 use refresh::retract::retract;
@@ -19,7 +22,7 @@ use refresh::verdict::verdict;
 use rules::Owner;
 ghost use mathlib.Core.List.{[]};
 ghost use lib.ListN.{length};
-ghost use Rattle.rules.specs.Calls.{to-load, to-reset, to-retract, to-score, to-verdict, to-starts};
+ghost use Rattle.rules.specs.Calls.{to-load, to-reset, to-retract, to-put, to-score, to-verdict, to-starts};
 ghost use Rattle.refresh.specs.Loads.{loading};
 ghost use Rattle.refresh.specs.Promise.{slices};
 ghost use Rattle.capi.specs.Numbers.{Answers};
@@ -118,6 +121,36 @@ pub extern "C" fn notekarip_retract(
     match retract(base, spans, edges, routes, times, Owner(owner)) {
         Ended::Refused(r) => code(r),
         Ended::Fine => zero(nums),
+    }
+}
+
+// An owner's route, in place of the one in force.
+#[no_mangle]
+pub extern "C" fn notekarip_put(
+    base: &[u32],
+    spans: &[u64],
+    edges: &mut [u16],
+    routes: &mut [u16],
+    times: &mut [u64],
+    owner: u32,
+    entries: &[u32],
+    nums: &mut [i64],
+    told: &mut [u64],
+) -> u32
+    ensures { λ c. ⌜ Answers (to-put owner (now (entries .entry)))
+        (slices (now (base .entry)) (now (spans .entry)) (now (edges .entry)) (now (routes .entry)) (now (times .entry)))
+        (slices (now (base .entry)) (now (spans .entry)) (now (edges .exit)) (now (routes .exit)) (now (times .exit)))
+        [] [] (now (nums .entry)) (now (nums .exit)) (now (told .entry)) (now (told .exit)) c ⌝ }
+{
+    if lacks_room(nums.len(), told.len()) {
+        return 13;
+    }
+    match put(base, spans, edges, routes, times, Owner(owner), entries) {
+        Changed::Refused(r) => code(r),
+        Changed::By(s, report) => {
+            write(nums, s);
+            tell_report(told, report)
+        }
     }
 }
 

@@ -1,5 +1,6 @@
 // A reply's numbers.
 use rules::Refusal;
+use rules::Report;
 use rules::Score;
 ghost use mathlib.Core.Path.{_≡_};
 ghost use mathlib.Core.Bool.{_||_};
@@ -10,6 +11,8 @@ ghost use lib.IntN.{pos};
 ghost use lib.ListN.{length};
 ghost use lib.Seq.{sets};
 ghost use Rattle.rules.specs.Refusals.{numberOf};
+ghost use Rattle.rules.specs.Reports.{visitsOf};
+ghost use Rattle.capi.specs.Numbers.{reportIn};
 
 // Whether there is no room for a score, or none for what else is told.
 pub fn lacks_room(nums: usize, told: usize) -> bool
@@ -63,4 +66,17 @@ pub fn tell_two(told: &mut [u64], a: u64, b: u64) -> u32
     told[0] = a;
     told[1] = b;
     0
+}
+
+// What a put did to the starts, and the visits of its walk.
+pub fn tell_report(told: &mut [u64], report: Report) -> u32
+    requires { ⌜ 3 ≤ length (now told) ⌝ }
+    ensures { λ c. ⌜ (c ≡ 0) × (now (told .exit) ≡ sets (now (told .entry)) 0 (reportIn report ∷ visitsOf report ∷ [])) ⌝ }
+{
+    match report {
+        Report::Skipped => tell_two(told, 0, 0),
+        Report::Full => tell_two(told, 1, 0),
+        Report::CycleFound => tell_two(told, 2, 0),
+        Report::Incremental(v) => tell_two(told, 3, v as u64),
+    }
 }

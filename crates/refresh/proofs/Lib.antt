@@ -16,4 +16,5 @@ pub mod Lengths
 pub mod Histories
 pub mod Fresh
 pub mod Accepting
+pub mod Putting
 pub mod Unique

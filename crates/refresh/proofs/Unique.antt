@@ -10,7 +10,7 @@ use Rattle.rules.specs.declared.Refusal.{Refusal}
 use Rattle.rules.specs.declared.Score.{Score}
 use Rattle.rules.specs.Sizes.{Loading}
 use Rattle.rules.specs.Routes.{State}
-use Rattle.rules.specs.Calls.{Ask, Reply, refused, scored, to-load, to-score, to-reset, to-starts, to-verdict, to-retract}
+use Rattle.rules.specs.Calls.{Ask, Reply, refused, scored, to-load, to-score, to-reset, to-put, to-starts, to-verdict, to-retract}
 use Rattle.refresh.specs.declared.score.Scored.{Scored}
 use Rattle.refresh.specs.declared.score.Scored.the-variants.{Is, Refused}
 use Rattle.refresh.specs.declared.score.Counted.{Counted}
@@ -24,6 +24,9 @@ use Rattle.refresh.specs.declared.verdict.Judged.the-variants.{LineUp, C
 use Rattle.refresh.specs.Promise.{Slices, StandsFor, answerOf, Decided, Promise, AnyPromise, Reads}
 use Rattle.refresh.specs.Says.{saysScored, saysCounted, saysEnded, saysStarted, places}
 use Rattle.refresh.specs.Shows.{saysVerdict}
+use Rattle.refresh.specs.declared.put.Changed.{Changed}
+use Rattle.refresh.specs.declared.put.Changed.the-variants.{By, Refused as Unchanged}
+use Rattle.refresh.specs.Changes.{saysChanged}
 use Rattle.refresh.proofs.Tabled.{places-length}
 
 -- ── as the rules have replies ──
@@ -89,6 +92,12 @@ judged-same out (Unjudged r) (LineUp n) e = let z : _≡_ {A = ℕ} 0 1 = cc in 
 judged-same out (Unjudged r) (Cycle n) e = let z : _≡_ {A = ℕ} 0 1 = cc in absurd (omega arith)
 judged-same out (Unjudged r) (Unjudged q) e = cc
 
+pub changed-same : (x y : Changed) → saysChanged x ≡ saysChanged y → x ≡ y
+changed-same (By s r) (By t q) e = cc
+changed-same (By s r) (Unchanged q) e = let z : _≡_ {A = ℕ} 0 1 = cc in absurd (omega arith)
+changed-same (Unchanged r) (By t q) e = let z : _≡_ {A = ℕ} 0 1 = cc in absurd (omega arith)
+changed-same (Unchanged r) (Unchanged q) e = cc
+
 -- ── call by call ──
 
 pub score-unique : {s : Slices} (t : State) → StandsFor s t → (x y : Counted) → Reads to-score s (saysCounted x)
@@ -120,3 +129,7 @@ verdict-unique {o₁ = o₁} t h x y p q =
 pub retract-unique : {o : ℕ} {s s₁ s₂ : Slices} (t : State) → StandsFor s t → (x y : Ended)
     → Promise (to-retract o) s s₁ [] [] (saysEnded x) → Promise (to-retract o) s s₂ [] [] (saysEnded y) → (x ≡ y) × (s₁ ≡ s₂)
 retract-unique t h x y p q = let (a, b, c) = unique t h p q in (ended-same x y a, b)
+
+pub put-unique : {o : ℕ} {l : List ℕ} {s s₁ s₂ : Slices} (t : State) → StandsFor s t → (x y : Changed)
+    → Promise (to-put o l) s s₁ [] [] (saysChanged x) → Promise (to-put o l) s s₂ [] [] (saysChanged y) → (x ≡ y) × (s₁ ≡ s₂)
+put-unique t h x y p q = let (a, b, c) = unique t h p q in (changed-same x y a, b)

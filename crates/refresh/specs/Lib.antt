@@ -8,3 +8,4 @@ pub mod Loads
 pub mod Shows
 pub mod History
 pub mod Fills
+pub mod Changes

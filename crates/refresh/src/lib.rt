@@ -6,6 +6,7 @@
 //   times  u64   0 cyclic, 1 makespan; 2.. starts[512]
 pub mod header;
 pub mod load;
+pub mod put;
 pub mod reset;
 pub mod retract;
 pub mod score;

@@ -1,0 +1,157 @@
+// A put: score after minus score before, and the report.
+use crate::header::Header;
+use crate::header::broad;
+use crate::header::opened;
+use crate::score::Scored;
+use crate::score::score_of;
+use routes::ask::Ask;
+use routes::ask::asked;
+use routes::put::Outcome;
+use rules::Owner;
+use rules::Plan;
+use rules::Refusal;
+use rules::Report;
+use rules::Score;
+use times::settle::Settled;
+use times::settle::refresh;
+ghost use mathlib.Core.Path.{_≡_};
+ghost use mathlib.Core.List.{[]};
+ghost use Prim.Native.Nat.{_≤_, _<_};
+ghost use lib.ListN.{length};
+ghost use Rattle.rules.specs.Calls.{to-put};
+ghost use Rattle.refresh.specs.Promise.{Promise, slices};
+ghost use Rattle.refresh.specs.Changes.{Follows, Changes, saysChanged};
+
+enum Followed {
+    Is(Report),
+    Refused(Refusal),
+}
+
+pub enum Changed {
+    By(Score, Report),
+    Refused(Refusal),
+}
+
+// The routes and the edges change, then the times follow.
+fn change(
+    base: &[u32],
+    spans: &[u64],
+    edges: &mut [u16],
+    routes: &mut [u16],
+    times: &mut [u64],
+    plan: Plan,
+    owner: Owner,
+    entries: &[u32],
+) -> Followed
+    requires { ⌜ (6661 ≤ length (now base)) × (length (now spans) ≡ 512) × (length (now edges) ≡ 13314) × (length (now routes) ≡ 1794)
+        × (length (now times) ≡ 514) ⌝ }
+    requires { ⌜ (plan .jobs ≤ 512) × (owner .0 < 64) × (length (now entries) ≤ 1024) ⌝ }
+    ensures { λ r. ⌜ Follows (slices (now (base .entry)) (now (spans .entry)) (now (edges .entry)) (now (routes .entry)) (now (times .entry)))
+        (slices (now (base .entry)) (now (spans .entry)) (now (edges .exit)) (now (routes .exit)) (now (times .exit)))
+        (plan .jobs) (owner .0) (now (entries .entry)) r ⌝ }
+{
+    let mut came = [0u16; 1024];
+    let mut went = [0u16; 1024];
+    let mut gone = [0u16; 1024];
+    match routes::put::put(
+        routes,
+        edges,
+        &base[6149..6661],
+        plan.jobs,
+        owner.0,
+        entries,
+        &mut came,
+        &mut went,
+        &mut gone,
+    ) {
+        Outcome::Bad => Followed::Refused(Refusal::BadStore),
+        Outcome::NoRoom => Followed::Refused(Refusal::NoRoom),
+        Outcome::Done(c, w, g) => match refresh(
+            edges,
+            spans,
+            times,
+            &came,
+            c,
+            &went,
+            w,
+            &gone,
+            g,
+            broad(plan.jobs),
+        ) {
+            Settled::Bad => Followed::Refused(Refusal::BadStore),
+            Settled::Is(r) => Followed::Is(r),
+        },
+    }
+}
+
+// The score before, the change, the score after.
+fn rescore(
+    base: &[u32],
+    spans: &[u64],
+    edges: &mut [u16],
+    routes: &mut [u16],
+    times: &mut [u64],
+    plan: Plan,
+    owner: Owner,
+    entries: &[u32],
+) -> Changed
+    requires { ⌜ (6661 ≤ length (now base)) × (length (now spans) ≡ 512) × (length (now edges) ≡ 13314) × (length (now routes) ≡ 1794)
+        × (length (now times) ≡ 514) ⌝ }
+    requires { ⌜ (plan .jobs ≤ 512) × (owner .0 < 64) × (length (now entries) ≤ 1024) ⌝ }
+    ensures { λ r. ⌜ Changes (slices (now (base .entry)) (now (spans .entry)) (now (edges .entry)) (now (routes .entry)) (now (times .entry)))
+        (slices (now (base .entry)) (now (spans .entry)) (now (edges .exit)) (now (routes .exit)) (now (times .exit)))
+        (plan .jobs) (owner .0) (now (entries .entry)) r ⌝ }
+{
+    match score_of(base, routes, times, plan) {
+        Scored::Refused(r) => Changed::Refused(r),
+        Scored::Is(before) => match change(
+            base,
+            spans,
+            edges,
+            routes,
+            times,
+            plan,
+            owner,
+            entries,
+        ) {
+            Followed::Refused(r) => Changed::Refused(r),
+            Followed::Is(report) => match score_of(base, routes, times, plan) {
+                Scored::Refused(r) => Changed::Refused(r),
+                Scored::Is(after) => Changed::By(after.minus(before), report),
+            },
+        },
+    }
+}
+
+pub fn put(
+    base: &[u32],
+    spans: &[u64],
+    edges: &mut [u16],
+    routes: &mut [u16],
+    times: &mut [u64],
+    owner: Owner,
+    entries: &[u32],
+) -> Changed
+    ensures { λ r. ⌜ Promise (to-put (owner .0) (now (entries .entry)))
+        (slices (now (base .entry)) (now (spans .entry)) (now (edges .entry)) (now (routes .entry)) (now (times .entry)))
+        (slices (now (base .entry)) (now (spans .entry)) (now (edges .exit)) (now (routes .exit)) (now (times .exit)))
+        [] [] (saysChanged r) ⌝ }
+{
+    match opened(base, spans.len(), edges.len(), routes.len(), times.len()) {
+        Header::Refused(r) => Changed::Refused(r),
+        Header::Is(plan) => match asked(plan.owners, owner.0, entries.len()) {
+            Ask::NoSuchOwner => Changed::Refused(Refusal::NoSuchOwner),
+            Ask::TooManyEntries => Changed::Refused(Refusal::TooManyEntries),
+            Ask::Fine => rescore(
+                base,
+                &spans[..512],
+                &mut edges[..13314],
+                &mut routes[..1794],
+                &mut times[..514],
+                plan,
+                owner,
+                entries,
+            ),
+        },
+    }
+}
