@@ -24,12 +24,12 @@ use Rattle.rules.specs.Calls.{changed, refused, to-put, refusal, accepted}
 use Rattle.rules.proofs.Ranges.{lt-or-le}
 use Rattle.rules.proofs.Refused.{accepted-step}
 use Rattle.rules.proofs.Puts.{Loaded}
-use Rattle.routes.specs.declared.put.Outcome as outcome
+use Rattle.puts.specs.declared.put.Outcome as outcome
 use Rattle.routes.specs.declared.ask.Ask.{Ask}
 use Rattle.routes.specs.declared.ask.Ask.the-variants.{Fine}
 use Rattle.routes.specs.Asks.{askOf}
 use Rattle.routes.specs.Snapped.{Stated}
-use Rattle.routes.specs.Puts.{Asked, PutPromised}
+use Rattle.puts.specs.Puts.{Asked, PutPromised}
 use Rattle.routes.proofs.Asking.{refusalOf, ask-is, ask-owner, ask-many}
 use Rattle.times.specs.declared.settle.Settled as settled
 use Rattle.times.specs.Words.{spanWords}

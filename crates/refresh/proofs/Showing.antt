@@ -23,8 +23,8 @@ use Rattle.kernels.specs.declared.rows.Tail.{Tail}
 use Rattle.kernels.specs.declared.rows.Tail.the-variants.{Is as Upto, Bad as Lost}
 use Rattle.kernels.specs.declared.lines.Lined.{Lined}
 use Rattle.kernels.specs.declared.lines.Lined.the-variants.{All, Stuck, Bad as Broken}
-use Rattle.kernels.specs.Lowests.{Lowest, Shown}
-use Rattle.kernels.specs.Cycles.{Cycles, Looped}
+use Rattle.searches.specs.Lowests.{Lowest, Shown}
+use Rattle.searches.specs.Cycles.{Cycles, Looped}
 use Rattle.refresh.specs.declared.header.Header.{Header}
 use Rattle.refresh.specs.declared.header.Header.the-variants.{Is as Headed, Refused as Unopened}
 use Rattle.refresh.specs.declared.verdict.Judged.{Judged}

@@ -4,9 +4,9 @@ use crate::header::broad;
 use crate::header::opened;
 use crate::score::Scored;
 use crate::score::score_of;
+use puts::put::Outcome;
 use routes::ask::Ask;
 use routes::ask::asked;
-use routes::put::Outcome;
 use rules::Owner;
 use rules::Plan;
 use rules::Refusal;
@@ -53,7 +53,7 @@ fn change(
     let mut came = [0u16; 1024];
     let mut went = [0u16; 1024];
     let mut gone = [0u16; 1024];
-    match routes::put::put(
+    match puts::put::put(
         routes,
         edges,
         &base[6149..6661],

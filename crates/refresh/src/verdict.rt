@@ -2,11 +2,11 @@
 use crate::header::Header;
 use crate::header::broad;
 use crate::header::opened;
-use kernels::cycles::cycle;
 use kernels::lines::Lined;
-use kernels::lowests::lowest_up;
 use kernels::rows::Tail;
 use rules::Refusal;
+use searches::cycles::cycle;
+use searches::lowests::lowest_up;
 ghost use mathlib.Core.Path.{_≡_};
 ghost use Prim.Native.Nat.{_≤_};
 ghost use lib.ListN.{length, take};

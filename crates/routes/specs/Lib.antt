@@ -11,5 +11,4 @@ pub mod Turns
 pub mod Exchanged
 pub mod Swapped
 pub mod Desks
-pub mod Puts
 pub mod Asks

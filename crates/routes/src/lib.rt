@@ -11,7 +11,6 @@ pub mod ask;
 pub mod assigned;
 pub mod difference;
 pub mod exchange;
-pub mod put;
 pub mod rows;
 pub mod snap;
 pub mod wait;

@@ -1,0 +1,2 @@
+-- What a put promises. Assumes nothing.
+pub mod Puts

@@ -1,0 +1,3 @@
+-- What the searches promise. Assumes nothing.
+pub mod Lowests
+pub mod Cycles
