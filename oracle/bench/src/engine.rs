@@ -1,11 +1,15 @@
 //! What an engine must be able to do to stand in the table.
 
+use crate::rows::Work;
 use compare::workloads::Workload;
 
 /// One side of the table. Every side gets the same calls in the same order, and its answers
 /// must be the same as those of the others.
 pub trait Engine {
     fn name(&self) -> &'static str;
+
+    /// Whether it has an answer to this work at all.
+    fn has(&self, work: &Work) -> bool;
 
     /// Loads the plan and puts its routes; not timed.
     fn open(&mut self, workload: &Workload);
@@ -15,6 +19,9 @@ pub trait Engine {
 
     /// Answers the score change.
     fn put(&mut self, owner: u32, entries: &[u32]) -> (i64, i64);
+
+    /// The number of jobs in the shown line-up or cycle of the opened plan.
+    fn verdict(&mut self) -> usize;
 
     /// The quick check of a list change in the opened plan.
     fn quick_check(&mut self, owner: u32, source: u32, dest: u32) -> bool;

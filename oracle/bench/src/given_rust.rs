@@ -1,6 +1,7 @@
 //! The given Rust as an engine.
 
 use crate::engine::Engine;
+use crate::rows::Work;
 use compare::workloads::Workload;
 use given::{constraint, score, Constraint, GivenMove, Graph, IncrementalConstraint, Solution};
 
@@ -23,6 +24,11 @@ impl GivenRust {
 impl Engine for GivenRust {
     fn name(&self) -> &'static str {
         "given Rust"
+    }
+
+    /// It tells whether a plan is cyclic, and shows neither a line-up nor a cycle.
+    fn has(&self, work: &Work) -> bool {
+        !matches!(work, Work::Verdict)
     }
 
     fn open(&mut self, workload: &Workload) {
@@ -49,6 +55,10 @@ impl Engine for GivenRust {
         let (constraint, solution) = self.constraint();
         let change = score(constraint.on_insert(solution, owner as usize, 0));
         (change.hard, change.soft)
+    }
+
+    fn verdict(&mut self) -> usize {
+        unreachable!("the given Rust shows no verdict")
     }
 
     fn quick_check(&mut self, owner: u32, source: u32, dest: u32) -> bool {

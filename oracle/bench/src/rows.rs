@@ -17,12 +17,13 @@ pub enum Work {
     Full(Vec<Change>),
     Both(Vec<Change>),
     Blocks(Vec<u32>),
+    Verdict,
 }
 
 impl Work {
     pub fn calls(&self) -> usize {
         match self {
-            Work::Load | Work::Blocks(_) => 1,
+            Work::Load | Work::Blocks(_) | Work::Verdict => 1,
             Work::Puts(puts) => puts.len(),
             Work::Quick(moves) | Work::Full(moves) | Work::Both(moves) => moves.len(),
         }
@@ -45,6 +46,8 @@ const PLANS: [(&str, MakeWorkload); 2] = [("staged", layered), ("ranked", ranked
 pub fn rows() -> Vec<Row> {
     let mut rows = put_rows();
     rows.extend(PLANS.map(|(plan, workload)| load_row(plan, workload)));
+    rows.extend(PLANS.map(|(plan, workload)| line_up_row(plan, workload)));
+    rows.push(cycle_row());
     rows.extend(check_rows());
     rows.extend(PLANS.map(|(plan, workload)| blocks_row(plan, workload)));
     let name = "hub of 400 children: put of an edge there, and back";
@@ -106,6 +109,31 @@ fn load_row(plan: &str, workload: MakeWorkload) -> Row {
         workload,
         work: Work::Load,
         note: String::new(),
+    }
+}
+
+/// What the note of a row says where the first engine has no answer.
+const NO_VERDICT: &str = "the given Rust shows no verdict";
+
+fn line_up_row(plan: &str, workload: MakeWorkload) -> Row {
+    Row {
+        name: format!("verdict, line-up, {plan}"),
+        workload: workload(SEED),
+        work: Work::Verdict,
+        note: NO_VERDICT.to_string(),
+    }
+}
+
+/// The first route of 8 leads back to its first job.
+fn cycle_row() -> Row {
+    let mut workload = ranked(SEED);
+    let first = workload.routes[0][0];
+    workload.routes[0].push(first);
+    Row {
+        name: "verdict, cycle, ranked".to_string(),
+        workload,
+        work: Work::Verdict,
+        note: NO_VERDICT.to_string(),
     }
 }
 
