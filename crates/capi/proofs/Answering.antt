@@ -1,18 +1,24 @@
--- How a call for C keeps its promise: no room for the numbers, or what layer 3 answered, in numbers. Assumes nothing.
+-- How a call for C keeps its promise: no room for the numbers, or what the layer beneath answered, in numbers. Assumes nothing.
 use Prim.Native.Nat.{ℕ, _<_, _≤_}
-use mathlib.Core.Path.{_≡_, refl, sym, subst, _∙_}
+use mathlib.Core.Path.{_≡_, refl, sym, ap, subst, _∙_}
 use mathlib.Core.Bool.{Bool, true, false, _||_}
-use mathlib.Core.List.{List}
+use mathlib.Core.List.{List, [], _∷_}
 use lib.Dec.{ltb}
 use lib.IntN.{ℤ}
-use lib.ListN.{length}
+use lib.ListN.{length, getD}
+use lib.Seq.{sets}
 use borrow.Author.Tests.{lt-ltb, le-ltb, ltb-false}
-use Rattle.rules.specs.Calls.{Ask, Reply}
+use Rattle.rules.specs.Calls.{Reply}
+use Rattle.rules.specs.declared.Block.{Block}
 use Rattle.rules.proofs.Ranges.{clash}
+use Rattle.rules.proofs.Runs.{noBlock}
+use Rattle.rules.proofs.Tabled.{table-length}
 use Rattle.rules.proofs.Members.{or-false}
 use Rattle.refresh.specs.Promise.{Slices}
-use Rattle.refresh.specs.History.{Kept}
-use Rattle.capi.specs.Numbers.{Written, Untouched, Answers}
+use Rattle.blocks.specs.Promise.{records, saysBlocked}
+use Rattle.blocks.specs.declared.blocks.Blocked.{Blocked}
+use Rattle.blocks.specs.declared.blocks.Blocked.the-variants.{Are, Refused}
+use Rattle.capi.specs.Numbers.{Written, Untouched, AnswersBy, blockedCode, blockedTold}
 
 -- whether there is room, told from the lengths
 pub room-short : (n k : ℕ) → n < 2 → true ≡ ltb n 2 || ltb k 3
@@ -28,22 +34,34 @@ module _ (sc : List ℤ) (td : List ℕ) {b : Bool} (room : b ≡ ltb (length sc
   pub long-told : b ≡ false → 3 ≤ length td
   long-told e = ltb-false (length td) 3 (or-false {a = ltb (length sc) 2} (sym room ∙ e) .1)
 
-  module _ (a : Ask) (s : Slices) (out : List ℕ) where
+  -- K is what the call promises of its reply
+  module _ {X : Type 0} (K : Reply → Type 0) (s : Slices) (out : List X) where
     untouched : Untouched s s out out sc sc td td 13
     untouched = record { code = refl; store = refl; answer = refl; score = refl; told = refl }
 
-    pub crowded : b ≡ true → Answers a s s out out sc sc td td 13
+    pub crowded : b ≡ true → AnswersBy K s s out out sc sc td td 13
     crowded e = record {
       few-score = λ h. untouched;
       few-told = λ h. untouched;
       keeps = λ h k. clash e (room ∙ rw (le-ltb (length sc) 2 h, le-ltb (length td) 3 k));
     }
 
-    -- what layer 3 answered is y, which means the reply f y
-    pub answered : {X : Type 0} (f : X → Reply) {x y : X} → b ≡ false → x ≡ y → {s′ : Slices} {out′ : List ℕ} {sc′ : List ℤ} {td′ : List ℕ}
-        {c : ℕ} → Kept a s s′ out out′ (f x) → Written sc sc′ td td′ c (f y) → Answers a s s′ out out′ sc sc′ td td′ c
-    answered {X} f {y = y} e q {s′} {out′} K W = record {
+    -- what the layer beneath answered is y, which means the reply f y
+    pub answered : {Y : Type 0} (f : Y → Reply) {x y : Y} → b ≡ false → x ≡ y → {s′ : Slices} {out′ : List X} {sc′ : List ℤ} {td′ : List ℕ}
+        {c : ℕ} → K (f x) → Written sc sc′ td td′ c (f y) → AnswersBy K s s′ out out′ sc sc′ td td′ c
+    answered {Y} f {y = y} e q kept W = record {
       few-score = λ h. clash (lt-ltb (length sc) 2 h) (le-ltb (length sc) 2 (long-score e));
       few-told = λ h. clash (lt-ltb (length td) 3 h) (le-ltb (length td) 3 (long-told e));
-      keeps = λ h k. (f y, subst (λ (z : X). Kept a s s′ out out′ (f z)) q K, W);
+      keeps = λ h k. (f y, subst (λ (z : Y). K (f z)) q kept, W);
     }
+
+-- what is told of the blocks is what their reply says
+pub told-of : {sc : List ℤ} {td td′ : List ℕ} {c : ℕ} (us : List Block) (d : Blocked) → c ≡ blockedCode d → td′ ≡ sets td 0 (blockedTold d)
+    → Written sc sc td td′ c (saysBlocked us d)
+unfolding records
+told-of {td = td} us (Are k) e f = record {
+  code = e;
+  score = refl;
+  told = f ∙ ap (λ (n : ℕ). sets td 0 (n ∷ [])) (sym (table-length k (λ v. getD us v noBlock)));
+}
+told-of us (Refused r) e f = record { code = e; score = refl; told = f }

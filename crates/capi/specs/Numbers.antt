@@ -13,6 +13,10 @@ use Rattle.rules.specs.Refusals.{numberOf}
 use Rattle.rules.specs.Calls.{Ask, Reply, refused, scored, changed, counted, lined-up, cycled, started, blocked, rerouted}
 use Rattle.refresh.specs.Promise.{Slices}
 use Rattle.refresh.specs.History.{Kept}
+use Rattle.rules.specs.declared.Block.{Block}
+use Rattle.blocks.specs.Promise.{BlocksPromise}
+use Rattle.blocks.specs.declared.blocks.Blocked.{Blocked}
+use Rattle.blocks.specs.declared.blocks.Blocked.the-variants.{Are, Refused}
 
 -- 0, or the refusal's number
 abbrev pub codeOf : Reply → ℕ
@@ -68,15 +72,34 @@ pub record Written (sc sc′ : List ℤ) (td td′ : List ℕ) (c : ℕ) (r : Re
   pub told : td′ ≡ sets td 0 (toldIn r)
 
 -- nothing is
-pub record Untouched (s s′ : Slices) (out out′ : List ℕ) (sc sc′ : List ℤ) (td td′ : List ℕ) (c : ℕ) : Type 0 where
+pub record Untouched {X : Type 0} (s s′ : Slices) (out out′ : List X) (sc sc′ : List ℤ) (td td′ : List ℕ) (c : ℕ) : Type 0 where
   pub code : c ≡ 13
   pub store : s′ ≡ s
   pub answer : out′ ≡ out
   pub score : sc′ ≡ sc
   pub told : td′ ≡ td
 
--- 13, which is no number of document 01: the slices for the numbers have fewer than 2 and 3 places. Else the call keeps its promise.
-pub record Answers (a : Ask) (s s′ : Slices) (out out′ : List ℕ) (sc sc′ : List ℤ) (td td′ : List ℕ) (c : ℕ) : Type 0 where
+-- 13, which is no number of document 01: the slices for the numbers have fewer than 2 and 3 places. Else the call keeps its promise, K of the
+-- reply.
+pub record AnswersBy {X : Type 0} (K : Reply → Type 0) (s s′ : Slices) (out out′ : List X) (sc sc′ : List ℤ) (td td′ : List ℕ) (c : ℕ)
+    : Type 0 where
   pub few-score : length sc < 2 → Untouched s s′ out out′ sc sc′ td td′ c
   pub few-told : length td < 3 → Untouched s s′ out out′ sc sc′ td td′ c
-  pub keeps : 2 ≤ length sc → 3 ≤ length td → (r : Reply) × Kept a s s′ out out′ r × Written sc sc′ td td′ c r
+  pub keeps : 2 ≤ length sc → 3 ≤ length td → (r : Reply) × K r × Written sc sc′ td td′ c r
+
+-- a call of layer 3
+abbrev pub Answers : Ask → Slices → Slices → List ℕ → List ℕ → List ℤ → List ℤ → List ℕ → List ℕ → ℕ → Type 0
+Answers a s s′ out out′ sc sc′ td td′ c = AnswersBy (Kept a s s′ out out′) s s′ out out′ sc sc′ td td′ c
+
+-- the critical blocks of the owners os, as records
+abbrev pub AnswersBlocks : List ℕ → Slices → Slices → List Block → List Block → List ℤ → List ℤ → List ℕ → List ℕ → ℕ → Type 0
+AnswersBlocks os s s′ out out′ sc sc′ td td′ c = AnswersBy (BlocksPromise os s s′ out out′) s s′ out out′ sc sc′ td td′ c
+
+-- what is told of the blocks: 0 and how many, or the refusal's number alone
+abbrev pub blockedCode : Blocked → ℕ
+blockedCode (Are k) = 0
+blockedCode (Refused r) = numberOf r
+
+abbrev pub blockedTold : Blocked → List ℕ
+blockedTold (Are k) = k ∷ []
+blockedTold (Refused r) = []

@@ -12,7 +12,7 @@ ghost use lib.ListN.{length};
 ghost use lib.Seq.{sets};
 ghost use Rattle.rules.specs.Refusals.{numberOf};
 ghost use Rattle.rules.specs.Reports.{visitsOf};
-ghost use Rattle.capi.specs.Numbers.{reportIn};
+ghost use Rattle.capi.specs.Numbers.{mark, reportIn};
 
 // Whether there is no room for a score, or none for what else is told.
 pub fn lacks_room(nums: usize, told: usize) -> bool
@@ -79,4 +79,15 @@ pub fn tell_report(told: &mut [u64], report: Report) -> u32
         Report::CycleFound => tell_two(told, 2, 0),
         Report::Incremental(v) => tell_two(told, 3, v as u64),
     }
+}
+
+// Both verdicts on a move, and the length of the new route.
+pub fn tell_move(told: &mut [u64], quick: bool, full: bool, k: u64) -> u32
+    requires { ⌜ 3 ≤ length (now told) ⌝ }
+    ensures { λ c. ⌜ (c ≡ 0) × (now (told .exit) ≡ sets (now (told .entry)) 0 (mark quick ∷ mark full ∷ k ∷ [])) ⌝ }
+{
+    told[0] = quick as u64;
+    told[1] = full as u64;
+    told[2] = k;
+    0
 }

@@ -83,7 +83,7 @@ fn passes(e: &[u16], order: &mut [u16], deg: &mut [u16], u: u16, n: usize, tail:
 }
 
 // Job v has k predecessors; without any it joins the order.
-fn enter(order: &mut [u16], deg: &mut [u16], v: usize, k: usize, tail: usize) -> usize
+pub fn enter(order: &mut [u16], deg: &mut [u16], v: usize, k: usize, tail: usize) -> usize
     requires { ⌜ (length (now order) ≡ 512) × (length (now deg) ≡ 512) × (v < 512) × (tail ≤ v) × (k ≤ 4096) ⌝ }
     ensures { λ r. ⌜ Enters v k tail (now (order .entry)) (now (deg .entry)) r (now (order .exit)) (now (deg .exit)) ⌝ }
 {

@@ -22,7 +22,7 @@ pub enum Judged {
 }
 
 // The first k jobs, as numbers of the answer.
-fn show(out: &mut [u32], jobs: &[u16], k: usize)
+pub fn show(out: &mut [u32], jobs: &[u16], k: usize)
     requires { ⌜ (k ≤ length (now out)) × (k ≤ length (now jobs)) ⌝ }
     ensures { λ _. ⌜ now (out .exit) ≡ sets (now (out .entry)) 0 (take k (now (jobs .entry))) ⌝ }
 {

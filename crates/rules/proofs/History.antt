@@ -18,7 +18,7 @@ use Rattle.rules.specs.Lists.{Pair, anyOf, isZero, keep, memb, sumOf, ti
 use Rattle.rules.specs.Refusals.{Check, firstOf, loadChecks, noOwner, noRoom, tooMany}
 use Rattle.rules.specs.Routes.{Heads, Plan, Route, State, adds, emptyRoute, fresh, holders, inForce, linksOf, putPlan, turned}
 use Rattle.rules.specs.Routes.{wait}
-use Rattle.rules.specs.Sizes.{Base, Loading, badFrom, baseOf, breaksSize, fitsSizes, hasLong, isLong, isShort, longest}
+use Rattle.rules.specs.Sizes.{Base, Loading, badFrom, baseOf, breaksSize, falls, fitsSizes, hasLong, isLong, isShort, longest}
 use Rattle.rules.specs.Sizes.{mostEntries, mostFixed, mostJobs, mostOwners, pairUp, validFixed}
 use Rattle.rules.proofs.Members.{once-snoc, or-false}
 use Rattle.rules.proofs.Puts.{Loaded, Sound, put-sound}
@@ -59,6 +59,12 @@ fixed-inside n (a ∷ f) (b ∷ t) h = let (x, y) = or-false {a = leb n a} h in 
     go true e x ih = (x, ltb-true b n e, ih)
     go false e x ih = ih
 
+-- the tails of the pairs are the first of the list
+pairs-rise : (a : ℕ) (f t : List ℕ) → falls a f ≡ false → falls a (map (λ (e : Pair). e .0) (pairUp f t)) ≡ false
+pairs-rise a [] t h = refl
+pairs-rise a (b ∷ f) [] h = refl
+pairs-rise a (b ∷ f) (c ∷ t) h = let (x, y) = or-false {a = ltb b a} h in rw (x, pairs-rise b f t y)
+
 pub pair-length : (f t : List ℕ) → length (pairUp f t) ≤ length f
 pair-length [] t = omega arith
 pair-length (a ∷ f) [] = omega arith
@@ -95,6 +101,7 @@ load-loaded l (a, (b, (c, d))) = let F = sizes-fit l a in record {
   durations = F .durations;
   short = shorts (l .durations) b;
   inside = fixed-inside (l .jobs) (l .from) (l .to) (or-false {a = anyOf (leb (l .jobs)) (l .from)} c .0);
+  rising = pairs-rise 0 (l .from) (l .to) (or-false {a = anyOf (leb (l .jobs)) (l .from)} c .1);
 }
 
 blank : (n u : ℕ) → _≡_ {A = List ℕ} (getD (replicate n []) u []) []

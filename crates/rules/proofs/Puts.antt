@@ -14,7 +14,7 @@ use Rattle.rules.specs.Lists.{Once, Pair, isEmpty, memb}
 use Rattle.rules.specs.Reports.{seeds}
 use Rattle.rules.specs.Routes.{Emptied, Heads, Plan, emptied, empty, emptyRoute, exchange, holders, inForce, isHeld, live, outs}
 use Rattle.rules.specs.Routes.{ownStage, putPlan, read, staged, turned, without}
-use Rattle.rules.specs.Sizes.{Base, duration, longest, mostEntries, mostFixed, mostJobs, mostOwners, validFixed}
+use Rattle.rules.specs.Sizes.{Base, duration, falls, longest, mostEntries, mostFixed, mostJobs, mostOwners, validFixed}
 use Rattle.rules.proofs.Members.{or-false}
 use Rattle.rules.proofs.Ranges.{clash}
 use Rattle.rules.proofs.Stages.{Inside, Kept, Read, Reads, empty-read, held-inside, inside-tips, read-read, reads-set}
@@ -29,6 +29,7 @@ pub record Loaded (b : Base) : Type 0 where
   pub durations : length (b .durations) ≡ b .jobs
   pub short : (v : ℕ) → duration b v ≤ longest
   pub inside : Inside (b .jobs) (validFixed b)
+  pub rising : falls 0 (map (λ (e : Pair). e .0) (b .fixed)) ≡ false
 
 pub record Sound (p : Plan) : Type 0 where
   pub loaded : Loaded (p .base)

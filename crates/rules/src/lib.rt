@@ -205,7 +205,8 @@ impl Report {
     }
 }
 
-// A critical block: places first to last, inclusive, of an owner's route of this length.
+// A critical block: places first to last, inclusive, of an owner's route of this length. A caller in C reads it.
+#[repr(C)]
 pub struct Block {
     pub owner: u32,
     pub first: u32,

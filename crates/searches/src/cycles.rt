@@ -17,7 +17,7 @@ pub enum Near {
 }
 
 // Job w, if it is not met yet, is at distance d and joins the queue.
-fn meet(queue: &mut [u16], dist: &mut [u16], w: u16, d: u16, n: usize, tail: usize) -> Tail
+pub fn meet(queue: &mut [u16], dist: &mut [u16], w: u16, d: u16, n: usize, tail: usize) -> Tail
     requires { ⌜ (length (now queue) ≡ 512) × (length (now dist) ≡ 512) × (n ≤ 512) × (tail ≤ 512) ⌝ }
     ensures { λ r. ⌜ Meet w d n tail (now (queue .entry)) (now (dist .entry)) r (now (queue .exit)) (now (dist .exit)) ⌝ }
 {

@@ -1,0 +1,179 @@
+// The moves of layer 4: the new route into `out`, both verdicts and the route's length into `told`.
+use crate::numbers::code;
+use crate::numbers::lacks_room;
+use crate::numbers::tell_move;
+use moves::moved::Moved;
+use moves::moved::list_change;
+use moves::moved::permutation;
+use moves::moved::sublist_change;
+use moves::moved::sublist_swap;
+use rules::Owner;
+ghost use lib.ListN.{length};
+ghost use Rattle.rules.specs.Calls.{to-move};
+ghost use Rattle.rules.specs.Moves.{list-change, sublist-change, sublist-swap, permutation as permuted};
+ghost use Rattle.refresh.specs.Promise.{slices};
+ghost use Rattle.capi.specs.Numbers.{Answers};
+
+// A job to another place of its route.
+#[no_mangle]
+pub extern "C" fn notekarip_list_change(
+    base: &[u32],
+    spans: &[u64],
+    edges: &[u16],
+    routes: &[u16],
+    times: &[u64],
+    owner: u32,
+    source: u32,
+    dest: u32,
+    out: &mut [u32],
+    nums: &mut [i64],
+    told: &mut [u64],
+) -> u32
+    ensures { λ c. ⌜ Answers (to-move owner (list-change source dest) (length (now (out .entry))))
+        (slices (now (base .entry)) (now (spans .entry)) (now (edges .entry)) (now (routes .entry)) (now (times .entry)))
+        (slices (now (base .entry)) (now (spans .entry)) (now (edges .entry)) (now (routes .entry)) (now (times .entry)))
+        (now (out .entry)) (now (out .exit)) (now (nums .entry)) (now (nums .exit)) (now (told .entry)) (now (told .exit)) c ⌝ }
+{
+    if lacks_room(nums.len(), told.len()) {
+        return 13;
+    }
+    match list_change(
+        base,
+        spans,
+        edges,
+        routes,
+        times,
+        Owner(owner),
+        source,
+        dest,
+        out,
+    ) {
+        Moved::Refused(r) => code(r),
+        Moved::Is(k, quick, full) => tell_move(told, quick, full, k as u64),
+    }
+}
+
+// A part of a route to another place.
+#[no_mangle]
+pub extern "C" fn notekarip_sublist_change(
+    base: &[u32],
+    spans: &[u64],
+    edges: &[u16],
+    routes: &[u16],
+    times: &[u64],
+    owner: u32,
+    start: u32,
+    end: u32,
+    dest: u32,
+    out: &mut [u32],
+    nums: &mut [i64],
+    told: &mut [u64],
+) -> u32
+    ensures { λ c. ⌜ Answers (to-move owner (sublist-change start end dest) (length (now (out .entry))))
+        (slices (now (base .entry)) (now (spans .entry)) (now (edges .entry)) (now (routes .entry)) (now (times .entry)))
+        (slices (now (base .entry)) (now (spans .entry)) (now (edges .entry)) (now (routes .entry)) (now (times .entry)))
+        (now (out .entry)) (now (out .exit)) (now (nums .entry)) (now (nums .exit)) (now (told .entry)) (now (told .exit)) c ⌝ }
+{
+    if lacks_room(nums.len(), told.len()) {
+        return 13;
+    }
+    match sublist_change(
+        base,
+        spans,
+        edges,
+        routes,
+        times,
+        Owner(owner),
+        start,
+        end,
+        dest,
+        out,
+    ) {
+        Moved::Refused(r) => code(r),
+        Moved::Is(k, quick, full) => tell_move(told, quick, full, k as u64),
+    }
+}
+
+// Two parts of a route change places.
+#[no_mangle]
+pub extern "C" fn notekarip_sublist_swap(
+    base: &[u32],
+    spans: &[u64],
+    edges: &[u16],
+    routes: &[u16],
+    times: &[u64],
+    owner: u32,
+    a: u32,
+    b: u32,
+    c: u32,
+    d: u32,
+    out: &mut [u32],
+    nums: &mut [i64],
+    told: &mut [u64],
+) -> u32
+    ensures { λ k. ⌜ Answers (to-move owner (sublist-swap a b c d) (length (now (out .entry))))
+        (slices (now (base .entry)) (now (spans .entry)) (now (edges .entry)) (now (routes .entry)) (now (times .entry)))
+        (slices (now (base .entry)) (now (spans .entry)) (now (edges .entry)) (now (routes .entry)) (now (times .entry)))
+        (now (out .entry)) (now (out .exit)) (now (nums .entry)) (now (nums .exit)) (now (told .entry)) (now (told .exit)) k ⌝ }
+{
+    if lacks_room(nums.len(), told.len()) {
+        return 13;
+    }
+    match sublist_swap(
+        base,
+        spans,
+        edges,
+        routes,
+        times,
+        Owner(owner),
+        a,
+        b,
+        c,
+        d,
+        out,
+    ) {
+        Moved::Refused(r) => code(r),
+        Moved::Is(k, quick, full) => tell_move(told, quick, full, k as u64),
+    }
+}
+
+// A part of a route in another order.
+#[no_mangle]
+pub extern "C" fn notekarip_permutation(
+    base: &[u32],
+    spans: &[u64],
+    edges: &[u16],
+    routes: &[u16],
+    times: &[u64],
+    owner: u32,
+    start: u32,
+    end: u32,
+    list: &[u32],
+    out: &mut [u32],
+    nums: &mut [i64],
+    told: &mut [u64],
+) -> u32
+    ensures { λ c. ⌜ Answers (to-move owner (permuted start end (now (list .entry))) (length (now (out .entry))))
+        (slices (now (base .entry)) (now (spans .entry)) (now (edges .entry)) (now (routes .entry)) (now (times .entry)))
+        (slices (now (base .entry)) (now (spans .entry)) (now (edges .entry)) (now (routes .entry)) (now (times .entry)))
+        (now (out .entry)) (now (out .exit)) (now (nums .entry)) (now (nums .exit)) (now (told .entry)) (now (told .exit)) c ⌝ }
+{
+    if lacks_room(nums.len(), told.len()) {
+        return 13;
+    }
+    match permutation(
+        base,
+        spans,
+        edges,
+        routes,
+        times,
+        Owner(owner),
+        start,
+        end,
+        list,
+        out,
+    ) {
+        Moved::Refused(r) => code(r),
+        Moved::Is(k, quick, full) => tell_move(told, quick, full, k as u64),
+    }
+}

@@ -1,0 +1,389 @@
+-- How the four moves keep their promise. Assumes nothing.
+use Prim.Native.Nat.{ℕ, zero, suc, _+_, _-_, _≤_, _<_}
+use native.Mathlib.Omega.{arith}
+use mathlib.Core.Path.{_≡_, refl, sym, ap, _∙_}
+use mathlib.Core.Bool.{Bool, true, false, cond, not, _&&_}
+use mathlib.Core.Option.{Option, none, some}
+use mathlib.Core.Logic.{_⊎_, inl, inr}
+use mathlib.Core.List.{List, [], _∷_, _++_, append-assoc, map}
+use lib.Dec.{eqb, ltb}
+use lib.ListN.{length, getD, take, drop, length-map, replicate}
+use lib.Seq.{sets, length-sets, length-take-le, take-take, take-at, drop-at}
+use borrow.Author.Tests.{ne-eqb, le-leb, lt-leb, le-ltb, lt-ltb, ltb-true, ltb-false}
+use Rattle.rules.specs.declared.Plan.{Plan as Counts}
+use Rattle.rules.specs.declared.Refusal.{Refusal}
+use Rattle.rules.specs.declared.Refusal.the-variants.{BadPositions, BadStore, BrokenRoute, NoSuchOwner, ShortAnswer}
+use Rattle.rules.specs.Calls.{Reply, accepted, refused, rerouted, to-move}
+use Rattle.rules.specs.Graphs.{Graph}
+use Rattle.rules.specs.Lists.{Pair, allBelow, isZero, keep, memb, tick, times}
+use Rattle.rules.specs.Moves.{Move, fullCheck, goodPositions, isFixed, isMovedCyclic, isMovedQuick, moved, movedOn, movedStays, newRoute, occurs, quickCheck}
+use Rattle.rules.specs.Refusals.{firstOf, isBroken, noOwner, noPositions, tooFew}
+use Rattle.rules.specs.Routes.{Plan, Stop, emptyRoute, jobsOf, routeOf}
+use Rattle.rules.specs.Scores.{isCyclic}
+use Rattle.rules.specs.Sizes.{Base, falls, isShort, mostFixed, mostOwners, pairUp}
+use Rattle.rules.proofs.Checks.{below-all, checks-agree-calm, new-jobs}
+use Rattle.rules.proofs.Ranges.{Test, clash, fail, lt-or-le, pass, same, test}
+use Rattle.rules.proofs.Stages.{LowStops}
+use Rattle.routes.specs.Desks.{edgesOf, routesOf}
+use Rattle.routes.specs.Store.{Holds as RoutesHold, Model, routeAt}
+use Rattle.graphs.proofs.Kahn.{memb-later, memb-self}
+use Rattle.times.proofs.Graphing.{below, live-fun}
+use Rattle.refresh.specs.Headers.{openOf}
+use Rattle.refresh.specs.Promise.{Decided, Held, Promise, Slices, answerOf, lentOf}
+use Rattle.refresh.specs.Says.{places}
+use Rattle.refresh.specs.Words.{baseWords, froms, padded, tos}
+use Rattle.refresh.specs.declared.header.Header.{Header}
+use Rattle.refresh.specs.declared.header.Header.the-variants.{Is as Headed, Refused as Unopened}
+use Rattle.refresh.proofs.Laying.{padded-length}
+use Rattle.refresh.proofs.Openings.{countsOf, open-short, open-some}
+use Rattle.refresh.proofs.Promises.{closed-kept, decided-read, decided-refused, opened-kept, refusal-long}
+use Rattle.refresh.proofs.Scores.{timed}
+use Rattle.refresh.proofs.Tabled.{part-slice, places-take, table-at, taken-sets}
+use Rattle.moves.specs.Calls.{Answers, Begins, Finishes, Judges, Opens, Places, Route, Words, saysMoved}
+use Rattle.moves.specs.Gathered.{fixedIn}
+use Rattle.moves.specs.Judges.{Checks, onFor, staysFor}
+use Rattle.moves.specs.Pairs.{Rising, fromsIn, pairsIn}
+use Rattle.moves.specs.declared.checks.Checked.{Checked}
+use Rattle.moves.specs.declared.checks.Checked.the-variants.{Is as Checks-are, Bad}
+use Rattle.moves.specs.Stopping.{Stops, Whole}
+use Rattle.moves.specs.declared.moved.Begun.{Begun}
+use Rattle.moves.specs.declared.moved.Begun.the-variants.{Is as Ready, Refused as Unready}
+use Rattle.moves.specs.declared.stops.Route.{Route as Stopped}
+use Rattle.moves.specs.declared.stops.Route.the-variants.{Of, Broken, Bad as Lost}
+use Rattle.moves.specs.declared.moved.Moved.{Moved}
+use Rattle.moves.specs.declared.moved.Moved.the-variants.{Is, Refused}
+
+-- ── the fixed pairs ──
+
+-- the k words from f on, of a slice that begins with the words b
+part-of : (l b : List ℕ) (n f k : ℕ) → take n l ≡ b → f + k ≤ n → take k (drop f l) ≡ take k (drop f b)
+part-of l b n f k e h =
+    let q : f + k - f ≡ k = omega arith in
+    ap (λ (j : ℕ). take j (drop f l)) (sym q) ∙ part-slice f (f + k) l (omega arith)
+    ∙ ap (drop f) (sym (take-take (f + k) n l h) ∙ ap (take (f + k)) e)
+    ∙ sym (part-slice f (f + k) b (omega arith)) ∙ ap (λ (j : ℕ). take j (drop f b)) q
+
+pairs-up : (l : List Pair) → pairUp (map (λ (e : Pair). e .0) l) (map (λ (e : Pair). e .1) l) ≡ l
+pairs-up [] = refl
+pairs-up (e ∷ l) = ap (λ (r : List Pair). e ∷ r) (pairs-up l)
+
+module _ (base : List ℕ) (b : Base) (held : take 6661 base ≡ baseWords b) (few : length (b .fixed) ≤ mostFixed) where
+  froms-are : fromsIn (length (b .fixed)) base ≡ froms b
+  unfolding baseWords
+  froms-are =
+      part-of base (baseWords b) 6661 5 (length (b .fixed)) held (omega arith)
+      ∙ front (froms b) (mostFixed - length (froms b)) _ (length-map (b .fixed) (λ (e : Pair). e .0))
+    where
+      front : (x : List ℕ) (j : ℕ) (y : List ℕ) → length x ≡ length (b .fixed) → take (length (b .fixed)) ((x ++ replicate j 0) ++ y) ≡ x
+      front x j y q = ap (take (length (b .fixed))) (append-assoc x (replicate j 0) y)
+          ∙ take-at x (replicate j 0 ++ y) (length (b .fixed)) q
+
+  tos-are : take (length (b .fixed)) (drop 3077 base) ≡ tos b
+  unfolding baseWords
+  tos-are =
+      part-of base (baseWords b) 6661 3077 (length (b .fixed)) held (omega arith)
+      ∙ ap (take (length (b .fixed))) (drop-at (padded mostFixed (froms b)) (padded mostFixed (tos b) ++ _) 3072
+      (padded-length mostFixed (froms b) 0 (let a = length-map (b .fixed) (λ (e : Pair). e .0) in omega arith)))
+      ∙ ap (take (length (b .fixed))) (append-assoc (tos b) (replicate (mostFixed - length (tos b)) 0) _)
+      ∙ take-at (tos b) _ (length (b .fixed)) (length-map (b .fixed) (λ (e : Pair). e .1))
+
+  pub pairs-are : pairsIn (length (b .fixed)) base ≡ b .fixed
+  unfolding pairsIn
+  pairs-are = rw (froms-are, tos-are) (pairs-up (b .fixed))
+
+  pub rising-is : falls 0 (froms b) ≡ false → Rising (length (b .fixed)) base
+  rising-is h = record { is = rw froms-are h }
+
+-- a pair whose head is below n is one of the valid ones
+valid-times : (n u v : ℕ) (l : List Pair) → v < n → times (u, v) (keep (λ e. ltb (e .1) n) l) ≡ times (u, v) l
+valid-times n u v [] h = refl
+valid-times n u v ((a, b) ∷ l) h = look (test (ltb b n)) (valid-times n u v l h)
+  where
+    no : ltb b n ≡ false → (v ≡ b) ⊎ (v ≡ b → ⊥) → eqb u a && eqb v b ≡ false
+    no q (inl e) = let x = ltb-false b n q in absurd (omega arith)
+    no q (inr e) = rw (ne-eqb v b e) (none (eqb u a))
+      where
+        none : (c : Bool) → c && false ≡ false
+        none true = refl
+        none false = refl
+
+    look : Test (ltb b n) → times (u, v) (keep (λ e. ltb (e .1) n) l) ≡ times (u, v) l
+        → times (u, v) (cond (ltb b n) ((a, b) ∷ keep (λ e. ltb (e .1) n) l) (keep (λ e. ltb (e .1) n) l))
+        ≡ tick (eqb u a && eqb v b) (times (u, v) l)
+    look (pass q) ih = rw (q, ih)
+    look (fail q) ih = rw (q, no q (same v b), ih)
+
+-- ── the jobs of a route ──
+
+low-stops : (n : ℕ) (l : List Stop) → LowStops n l → allBelow n (map (λ (s : Stop). s .0) l) ≡ true
+low-stops n [] h = refl
+low-stops n (s ∷ l) (a, h) = rw (lt-ltb (s .0) n a, low-stops n l h)
+
+all-low : (n : ℕ) (l : List ℕ) → ((v : ℕ) → memb v l ≡ true → v < n) → allBelow n l ≡ true
+all-low n [] f = refl
+all-low n (v ∷ l) f =
+    rw (lt-ltb v n (f v (memb-self v l)), all-low n l (λ w e. f w (memb-later w v l e)))
+
+-- ── the verdicts ──
+
+module _ {base e tms : List ℕ} {plan : Counts} {p : Plan} (W : Words base e tms plan p) {o k : ℕ} {old : List ℕ} (R : Route p o k old)
+    (new : List ℕ) (m : Move) (good : goodPositions k m ≡ true) (made : take k new ≡ moved m (take k old)) where
+  good-stops : goodPositions (length (routeOf p o .stops)) m ≡ true
+  good-stops = rw (R .long) at good
+
+  new-is : take k new ≡ newRoute p o m
+  unfolding newRoute
+  new-is = made ∙ ap (moved m) (R .are)
+
+  old-low : allBelow (p .base .jobs) (take k old) ≡ true
+  old-low = rw (R .are) (low-stops (p .base .jobs) (routeOf p o .stops) (W .sound .reads o .low))
+
+  new-low : allBelow (p .base .jobs) (take k new) ≡ true
+  new-low = rw new-is (all-low (p .base .jobs) (newRoute p o m) (λ v q.
+      below-all (p .base .jobs) (jobsOf (routeOf p o)) (rw (R .are) at old-low) v
+      (sym (new-jobs p o m good-stops v) ∙ q)))
+
+  fixed-is : (u v : ℕ) → u < p .base .jobs → v < p .base .jobs → isFixed p u v ≡ fixedIn (length (p .base .fixed)) base u v
+  unfolding isFixed
+  fixed-is u v hu hv =
+      ap (λ (x : ℕ). not (isZero x)) (valid-times (p .base .jobs) u v (p .base .fixed) hv)
+      ∙ ap (λ (l : List Pair). occurs l u v) (sym (pairs-are base (p .base) (W .base) (W .sound .loaded .fixed)))
+
+  on-moved : onFor old new k (edgesOf p) (isFixed p) ≡ movedOn p o m
+  unfolding movedOn
+  on-moved = rw (R .are, new-is, live-fun p (W .sound))
+
+  stays-moved : staysFor old new k (edgesOf p) (isFixed p) ≡ movedStays p o m
+  unfolding movedStays
+  stays-moved = rw (R .are, new-is, live-fun p (W .sound))
+
+  quick-moved : quickCheck (p .base .jobs) (onFor old new k (edgesOf p) (isFixed p)) (staysFor old new k (edgesOf p) (isFixed p))
+      ≡ isMovedQuick p o m
+  unfolding isMovedQuick
+  quick-moved =
+      ap (λ (E : Graph). quickCheck (p .base .jobs) E (staysFor old new k (edgesOf p) (isFixed p))) on-moved
+      ∙ ap (λ (S : Graph). quickCheck (p .base .jobs) (movedOn p o m) S) stays-moved
+
+  full-moved : fullCheck (p .base .jobs) (onFor old new k (edgesOf p) (isFixed p)) ≡ isMovedCyclic p o m
+  unfolding isMovedCyclic
+  full-moved = ap (fullCheck (p .base .jobs)) on-moved
+
+  pub checks-are : {n fixed : ℕ} {was : Bool} {c : Checked} → n ≡ plan .jobs → fixed ≡ plan .fixed → was ≡ not (eqb (getD tms 0 0) 0)
+      → Checks base fixed e old new k n was c → c ≡ Checks-are (isMovedQuick p o m) (isMovedCyclic p o m)
+  checks-are {n} {fixed} {was} {c} en ef ew C =
+      let en′ : n ≡ p .base .jobs = en ∙ ap (λ (x : Counts). x .jobs) (W .counts) in
+      let ef′ : fixed ≡ length (p .base .fixed) = ef ∙ ap (λ (x : Counts). x .fixed) (W .counts) in
+      let C′ : Checks base (length (p .base .fixed)) e old new k (p .base .jobs) was c = rw (en′, ef′) at C in
+      C′ .is (edgesOf p) (isFixed p) (W .edges) (below p (W .sound))
+      (rising-is base (p .base) (W .base) (W .sound .loaded .fixed) (W .sound .loaded .rising)) fixed-is
+      (λ q. quick-moved ∙ sym (checks-agree-calm p o m (calm q (isCyclic p) (timed p tms (W .times) .0))) ∙ sym full-moved)
+      ∙ ap (λ (x : Bool). Checks-are x (fullCheck (p .base .jobs) (onFor old new k (edgesOf p) (isFixed p)))) quick-moved
+      ∙ ap (λ (x : Bool). Checks-are (isMovedQuick p o m) x) full-moved
+    where
+      calm : was ≡ false → (b : Bool) → getD tms 0 0 ≡ tick b 0 → b ≡ false
+      calm q true t = let x : was ≡ true = ew ∙ rw t in clash x q
+      calm q false t = refl
+
+  pub answers-are : {out out′ : List ℕ} {x y : Bool} → k ≤ length out → k ≤ length new → out′ ≡ sets out 0 (take k new)
+      → _≡_ {A = Checked} (Checks-are x y) (Checks-are (isMovedQuick p o m) (isMovedCyclic p o m)) → Answers p o m out (Is k x y) out′
+  answers-are {out} {out′} {x} {y} room lent w c =
+      let q : places k out′ ≡ newRoute p o m =
+      places-take k out′ (let a = length-sets out 0 (take k new) in let b = ap length w in omega arith)
+      ∙ ap (take k) w ∙ taken-sets out (take k new) k (length-take-le k new lent) room ∙ new-is in
+      let a : x ≡ isMovedQuick p o m = cc in
+      let b : y ≡ isMovedCyclic p o m = cc in
+      record { says = rw (q, a, b); answers = w ∙ ap (sets out 0) new-is }
+
+-- ── what the code answers ──
+
+counted : {base e tms : List ℕ} {plan : Counts} {p : Plan} {n : ℕ} → n ≡ plan .jobs → Words base e tms plan p → n ≡ p .base .jobs
+counted en W = en ∙ ap (λ (x : Counts). x .jobs) (W .counts)
+
+module _ {base e tms : List ℕ} {plan : Counts} {old new : List ℕ} {k : ℕ} {out : List ℕ} {n : ℕ} (en : n ≡ plan .jobs) where
+  pub judge-old : {b : Bool} {r : Moved} {out′ : List ℕ} → b ≡ allBelow n (take k old) → b ≡ false → Judges base e tms plan old new k out r out′
+  judge-old q f = record {
+    is = λ p W o m R g w. clash (rw (counted en W) (old-low W R new m g w)) (sym q ∙ f);
+  }
+
+  pub judge-new : {b : Bool} {r : Moved} {out′ : List ℕ} → b ≡ allBelow n (take k new) → b ≡ false → Judges base e tms plan old new k out r out′
+  judge-new q f = record {
+    is = λ p W o m R g w. clash (rw (counted en W) (new-low W R new m g w)) (sym q ∙ f);
+  }
+
+  module _ {fixed : ℕ} {was : Bool} {c : Checked} (ef : fixed ≡ plan .fixed) (ew : was ≡ not (eqb (getD tms 0 0) 0))
+      (C : Checks base fixed e old new k n was c) where
+    pub judge-bad : {r : Moved} {out′ : List ℕ} → c ≡ Bad → Judges base e tms plan old new k out r out′
+    judge-bad q = record {
+      is = λ p W o m R g w.
+          let z = checks-are W R new m g w en ef ew C in
+          let y : _≡_ {A = ℕ} 0 1 = cc in
+          absurd (omega arith);
+    }
+
+    pub judge-shown : {x y : Bool} {out′ : List ℕ} → c ≡ Checks-are x y → k ≤ length out → k ≤ length new → out′ ≡ sets out 0 (take k new)
+        → Judges base e tms plan old new k out (Is k x y) out′
+    judge-shown q room lent w′ = record {
+      is = λ p W o m R g w. answers-are W R new m g w room lent w′ (sym q ∙ checks-are W R new m g w en ef ew C);
+    }
+
+module _ {base e tms : List ℕ} {plan : Counts} {old new : List ℕ} {k : ℕ} {out : List ℕ} where
+  pub finish-few : length out < k → Finishes base e tms plan old new k out (Refused ShortAnswer) out
+  finish-few h = record { few = λ _. (refl, refl); enough = λ g. absurd (omega arith) }
+
+  pub finish-judged : {r : Moved} {out′ : List ℕ} → k ≤ length out → Judges base e tms plan old new k out r out′
+      → Finishes base e tms plan old new k out r out′
+  finish-judged h J = record { few = λ g. absurd (omega arith); enough = λ _. J }
+
+-- ── the owner's route ──
+
+-- which check refuses first
+module _ (p : Plan) (o : ℕ) (m : Move) (room : ℕ) where
+  abbrev first : Option Refusal
+  first = firstOf (noOwner p o ∷ isBroken p o ∷ noPositions p o m ∷ tooFew room (length (routeOf p o .stops)) ∷ [])
+
+  no-owner : p .base .owners ≤ o → first ≡ some NoSuchOwner
+  no-owner h = rw (le-leb (p .base .owners) o h)
+
+  module _ (owner : o < p .base .owners) where
+    broken : 0 < routeOf p o .invalid → first ≡ some BrokenRoute
+    broken h = rw (lt-leb (p .base .owners) o owner, some-zero (routeOf p o .invalid) h)
+      where
+        some-zero : (k : ℕ) → 0 < k → isZero k ≡ false
+        some-zero zero h = absurd (omega arith)
+        some-zero (suc k) h = refl
+
+    module _ (whole : routeOf p o .invalid ≡ 0) where
+      positions : goodPositions (length (routeOf p o .stops)) m ≡ false → first ≡ some BadPositions
+      positions g = rw (lt-leb (p .base .owners) o owner, whole, g)
+
+      module _ (good : goodPositions (length (routeOf p o .stops)) m ≡ true) where
+        short : room < length (routeOf p o .stops) → first ≡ some ShortAnswer
+        short h = rw (lt-leb (p .base .owners) o owner, whole, good, lt-ltb room (length (routeOf p o .stops)) h)
+
+        fine : length (routeOf p o .stops) ≤ room → first ≡ none
+        fine h = rw (lt-leb (p .base .owners) o owner, whole, good, le-ltb room (length (routeOf p o .stops)) h)
+
+module _ (s : Slices) (o : ℕ) {h : Header} (opens : h ≡ openOf (lentOf s) (s .base)) where
+  pub begins-closed : {jobs : List ℕ} {r : Refusal} → h ≡ Unopened r → Begins s o jobs (Unready r)
+  begins-closed q = record { is = λ m out. closed-kept (to-move o m (length out)) s opens out refl q }
+
+  module _ {plan : Counts} (is : h ≡ Headed plan) where
+    -- refused for what is true of every plan that the store stands for
+    refuses : {jobs : List ℕ} (r : Refusal) → ((p : Plan) → Held s p → plan ≡ countsOf (p .base) → (m : Move) (k : ℕ) → first p o m k ≡ some r)
+        → Begins s o jobs (Unready r)
+    refuses r f = record {
+      is = λ m out. opened-kept (to-move o m (length out)) s opens s out out (refused r) is (λ g p H q.
+          decided-refused (some p) (to-move o m (length out)) s out r
+          (refusal-long (some p) (to-move o m (length out)) s g ∙ f p H q m (length out)));
+    }
+
+    pub begins-nobody : {jobs : List ℕ} {b : Bool} → b ≡ ltb o (plan .owners) → b ≡ false → Begins s o jobs (Unready NoSuchOwner)
+    begins-nobody e f = refuses NoSuchOwner (λ p H q m k. no-owner p o m k (rw q at (ltb-false o (plan .owners) (sym e ∙ f))))
+
+    module _ {b : Bool} (e : b ≡ ltb o (plan .owners)) (t : b ≡ true) (few : plan .owners ≤ 64) {w : ℕ} (ew : w ≡ o) where
+      low : o < plan .owners
+      low = ltb-true o (plan .owners) (sym e ∙ t)
+
+      owner-of : (p : Plan) → plan ≡ countsOf (p .base) → o < p .base .owners
+      owner-of p q = rw q at low
+
+      route-at : (p : Plan) → routeAt (routesOf p) w ≡ routeOf p o
+      unfolding routesOf
+      route-at p = rw ew (table-at mostOwners (routeOf p) o emptyRoute (let a = low in omega arith))
+
+      module _ {jobs : List ℕ} {x : Stopped} (S : Stops (take 1794 (s .routes)) w x jobs) where
+        pub begins-bad : x ≡ Lost → Begins s o jobs (Unready BadStore)
+        begins-bad y = refuses BadStore (λ p H q m k. absurd ((rw y at (S .is)) (routesOf p) (H .desk .routes)))
+
+        pub begins-broken : x ≡ Broken → Begins s o jobs (Unready BrokenRoute)
+        begins-broken y = refuses BrokenRoute (λ p H q m k.
+            broken p o m k (owner-of p q) (rw (route-at p) at ((rw y at (S .is)) (routesOf p) (H .desk .routes))))
+
+        pub begins-of : {k : ℕ} → x ≡ Of k → Begins s o jobs (Ready plan k)
+        begins-of {k} y =
+            let (a, f) : (k ≤ 1024) × ((m : Model) → RoutesHold (take 1794 (s .routes)) m → Whole m w k jobs) = rw y at (S .is) in
+            record {
+              is = record {
+                opens = sym opens ∙ is;
+                few = a;
+                is = λ p H.
+                    let z = f (routesOf p) (H .desk .routes) in
+                    let q : plan ≡ countsOf (p .base) = planned p H in
+                    record {
+                      owner = owner-of p q;
+                      whole = rw (← route-at p) (z .whole);
+                      long = rw (← route-at p) (z .long);
+                      are = rw (← route-at p) (z .are);
+                    };
+              };
+            }
+          where
+            opened-long : h ≡ Headed plan → isShort (lentOf s) ≡ false
+            opened-long i = look (test (isShort (lentOf s)))
+              where
+                look : Test (isShort (lentOf s)) → isShort (lentOf s) ≡ false
+                look (fail q) = q
+                look (pass q) =
+                    let y = open-short (s .base) (lentOf s) q in
+                    let z : _≡_ {A = ℕ} 0 1 = cc in
+                    absurd (omega arith)
+
+            planned : (p : Plan) → Held s p → plan ≡ countsOf (p .base)
+            planned p H = let y = open-some s (opened-long is) p H in let z = sym opens ∙ is in cc
+
+pub owner-near : {o w k : ℕ} {b : Bool} → w ≡ o → b ≡ ltb o k → b ≡ true → k ≤ 64 → w < 64
+owner-near {o} {w} {k} q e t h = let a = ltb-true o k (sym e ∙ t) in omega arith
+
+-- ── the call ──
+
+pub ready : {s : Slices} {o : ℕ} {jobs : List ℕ} {x : Begun} {plan : Counts} {k : ℕ} → Begins s o jobs x → x ≡ Ready plan k → Opens s o jobs plan k
+ready B q = rw q at (B .is)
+
+module _ (s : Slices) (o : ℕ) (m : Move) (out : List ℕ) {jobs : List ℕ} {x : Begun} (B : Begins s o jobs x) where
+  pub moved-refused : {r : Refusal} → x ≡ Unready r → Promise (to-move o m (length out)) s s out out (refused r)
+  moved-refused q = (rw q at (B .is)) m out
+
+  module _ {plan : Counts} {k : ℕ} (q : x ≡ Ready plan k) where
+    module _ {b : Bool} {new : List ℕ} (P : Places m k jobs b new) where
+      pub moved-positions : b ≡ false → Promise (to-move o m (length out)) s s out out (refused BadPositions)
+      moved-positions f = opened-kept (to-move o m (length out)) s {h = openOf (lentOf s) (s .base)} refl s out out (refused BadPositions)
+          (ready B q .opens) (λ g p H c.
+          let R = ready B q .is p H in
+          decided-refused (some p) (to-move o m (length out)) s out BadPositions
+          (refusal-long (some p) (to-move o m (length out)) s g
+          ∙ positions p o m (length out) (R .owner) (R .whole) (rw (R .long) at (sym (P .good) ∙ f))))
+
+      module _ (t : b ≡ true) {r : Moved} {out′ : List ℕ}
+          (F : Finishes (s .base) (take 13314 (s .edges)) (s .times) plan jobs new k out r out′) where
+        good : goodPositions k m ≡ true
+        good = sym (P .good) ∙ t
+
+        decided : isShort (lentOf s) ≡ false → (p : Plan) → Held s p → plan ≡ countsOf (p .base) → (length out < k) ⊎ (k ≤ length out)
+            → Decided (some p) (to-move o m (length out)) s s out out′ (saysMoved out′ r)
+        unfolding accepted
+        decided g p H c (inl h) =
+            let R = ready B q .is p H in
+            let (a, z) = F .few h in
+            rw (a, z)
+            (decided-refused (some p) (to-move o m (length out)) s out ShortAnswer
+            (refusal-long (some p) (to-move o m (length out)) s g
+            ∙ short p o m (length out) (R .owner) (R .whole) (rw (R .long) at good) (rw (R .long) at h)))
+        decided g p H c (inr h) =
+            let R = ready B q .is p H in
+            let W : Words (s .base) (take 13314 (s .edges)) (s .times) plan p =
+            record { base = H .base; edges = H .desk .edges; sound = H .desk .sound; times = H .times; counts = c } in
+            let A = F .enough h .is p W o m R good (P .is t) in
+            let d = decided-read p (to-move o m (length out)) s H
+            (refusal-long (some p) (to-move o m (length out)) s g
+            ∙ fine p o m (length out) (R .owner) (R .whole) (rw (R .long) at good) (rw (R .long) at h)) out
+            (rerouted (newRoute p o m) (isMovedQuick p o m) (isMovedCyclic p o m)) refl refl in
+            record {
+              says = A .says ∙ d .says;
+              leaves = d .leaves;
+              answers = A .answers ∙ ap (λ (y : Reply). sets out 0 (answerOf y))
+                  (sym (A .says));
+            }
+
+        pub moved-finished : Promise (to-move o m (length out)) s s out out′ (saysMoved out′ r)
+        moved-finished = opened-kept (to-move o m (length out)) s {h = openOf (lentOf s) (s .base)} refl s out out′ (saysMoved out′ r)
+            (ready B q .opens) (λ g p H c. decided g p H c (lt-or-le (length out) k))

@@ -1,0 +1,143 @@
+-- `begin`. Assumes nothing.
+use Rattle.moves.proofs.Promised.{begins-bad, begins-broken, begins-closed, begins-nobody, begins-of, owner-near}
+use borrow.Author.Tests.{not-false, not-true}
+use Rattle.moves.proofs.Promised.{begins-bad, begins-broken, begins-closed, begins-nobody, begins-of}
+use Rattle.refresh.proofs.Openings.{open-is}
+use borrow.Author.Tests.{not-false, not-true}
+use lib.ListN.{length-take}
+use mathlib.Core.Path.{sym, _∙_}
+use native.Mathlib.Omega.{arith}
+use borrow.Author.Needs.{needs}
+use Rattle.moves.proofs.moved.begin.Statement.{statement}
+use Rattle.moves.proofs.moved.begin.Tie as tie
+
+opened-requires : tie.Need-opened-requires
+opened-requires c κs = search needs
+
+enum-known-r : tie.Need-enum-known-r
+enum-known-r c = search needs
+
+enum-known-plan : tie.Need-enum-known-plan
+enum-known-plan c = search needs
+
+has-owner-requires : tie.Need-has-owner-requires
+has-owner-requires c κs = search needs
+
+returns : tie.Need-returns
+returns c =
+    let the-opened = c .before .before .before .before .before .opened in
+    let the-plan = c .before .before .before .plan in
+    let the-has-owner = c .before .has-owner in
+    let the-if1 = c .if1 in
+    begins-nobody _ _ (the-opened .ensures) (the-plan .given .1) (the-has-owner .ensures) (not-true _ (the-if1 .taken))
+
+broad-requires : tie.Need-broad-requires
+broad-requires c κs = search needs
+
+slice-aggregate-route-of : tie.Need-slice-aggregate-route-of
+slice-aggregate-route-of c =
+    let the-opened = c .before .before .before .before .before .before .before .opened in
+    let the-plan = c .before .before .before .before .before .plan in
+    let o = open-is _ _ _ (sym (the-opened .ensures) ∙ the-plan .given .1) in let l = o .long .routes in simp length-take (omega arith)
+
+route-of-requires : tie.Need-route-of-requires
+route-of-requires c κs =
+    let the-opened = c .before .before .before .before .before .before .before .before .opened in
+    let the-plan = c .before .before .before .before .before .before .plan in
+    let start = c .before .before .before .before .before .before .before .before .before .before .before .before .before .before .before in
+    let the-broad = c .before .before .broad in
+    let the-has-owner = c .before .before .before .before .has-owner in
+    let the-if1 = c .before .before .before .if1 in
+    let o = open-is _ _ _ (sym (the-opened .ensures) ∙ the-plan .given .1) in
+    let l = o .long .routes in (
+      simp length-take (omega arith),
+      start .pre,
+      owner-near (the-broad .ensures) (the-has-owner .ensures) (not-false _ (the-if1 .left))
+          (o .owners),
+    )
+
+enum-told : tie.Need-enum-told
+enum-told c = search needs
+
+enum-told-2 : tie.Need-enum-told-2
+enum-told-2 c = search needs
+
+enum-known-len : tie.Need-enum-known-len
+enum-known-len c = search needs
+
+returns-2 : tie.Need-returns-2
+returns-2 c =
+    let the-opened = c .before .before .before .opened in
+    let the-r = c .before .r in
+    begins-closed _ _ (the-opened .ensures) (the-r .given .1)
+
+same-length : tie.Need-same-length
+same-length c = search needs
+
+returns-3 : tie.Need-returns-3
+returns-3 c =
+    let the-opened = c .before .before .before .before .before .before .before .before .before .before .before .before .before .opened in
+    let the-plan = c .before .before .before .before .before .before .before .before .before .before .before .plan in
+    let the-has-owner = c .before .before .before .before .before .before .before .before .before .has-owner in
+    let the-if1 = c .before .before .before .before .before .before .before .before .if1 in
+    let the-broad = c .before .before .before .before .before .before .before .broad in
+    let the-route-of = c .before .before .before .before .route-of in
+    let the-enum-told = c .enum-told in
+    let o = open-is _ _ _ (sym (the-opened .ensures) ∙ the-plan .given .1) in
+    begins-bad _ _ (the-opened .ensures) (the-plan .given .1) (the-has-owner .ensures) (not-false _ (the-if1 .left)) (o .owners) (the-broad
+    .ensures) (the-route-of .ensures) (the-enum-told .given .1)
+
+same-length-2 : tie.Need-same-length-2
+same-length-2 c = search needs
+
+returns-4 : tie.Need-returns-4
+returns-4 c =
+    let the-opened = c .before .before .before .before .before .before .before .before .before .before .before .before .before .opened in
+    let the-plan = c .before .before .before .before .before .before .before .before .before .before .before .plan in
+    let the-has-owner = c .before .before .before .before .before .before .before .before .before .has-owner in
+    let the-if1 = c .before .before .before .before .before .before .before .before .if1 in
+    let the-broad = c .before .before .before .before .before .before .before .broad in
+    let the-route-of = c .before .before .before .before .route-of in
+    let the-enum-told2 = c .enum-told2 in
+    let o = open-is _ _ _ (sym (the-opened .ensures) ∙ the-plan .given .1) in
+    begins-broken _ _ (the-opened .ensures) (the-plan .given .1) (the-has-owner .ensures) (not-false _ (the-if1 .left)) (o .owners)
+    (the-broad .ensures) (the-route-of .ensures) (the-enum-told2 .given .1)
+
+same-length-3 : tie.Need-same-length-3
+same-length-3 c = search needs
+
+returns-5 : tie.Need-returns-5
+returns-5 c =
+    let the-opened = c .before .before .before .before .before .before .before .before .before .before .before .before .before .before .opened in
+    let the-plan = c .before .before .before .before .before .before .before .before .before .before .before .before .plan in
+    let the-has-owner = c .before .before .before .before .before .before .before .before .before .before .has-owner in
+    let the-if1 = c .before .before .before .before .before .before .before .before .before .if1 in
+    let the-broad = c .before .before .before .before .before .before .before .before .broad in
+    let the-route-of = c .before .before .before .before .before .route-of in
+    let the-len = c .before .len in
+    let o = open-is _ _ _ (sym (the-opened .ensures) ∙ the-plan .given .1) in
+    begins-of _ _ (the-opened .ensures) (the-plan .given .1) (the-has-owner .ensures) (not-false _ (the-if1 .left)) (o .owners) (the-broad
+    .ensures) (the-route-of .ensures) (the-len .given .1)
+
+pub begin-spec : {M : Type 1} → statement M
+begin-spec =
+    tie.close
+    (tie.spec
+    opened-requires
+    enum-known-r
+    enum-known-plan
+    has-owner-requires
+    returns
+    broad-requires
+    slice-aggregate-route-of
+    route-of-requires
+    enum-told
+    enum-told-2
+    enum-known-len
+    returns-2
+    same-length
+    returns-3
+    same-length-2
+    returns-4
+    same-length-3
+    returns-5)

@@ -1,0 +1,12 @@
+-- Laws that belong to no one function. Assumes nothing.
+pub mod Decimals
+pub mod Gathers
+pub mod LineEnds
+pub mod Namings
+pub mod Placing
+pub mod Returning
+pub mod Runs
+pub mod Sampled
+pub mod Scans
+pub mod Signs
+pub mod Unique

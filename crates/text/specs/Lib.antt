@@ -1,0 +1,4 @@
+-- What the text promises. Assumes nothing.
+pub mod Grammar
+pub mod Reads
+pub mod Writes

@@ -1,0 +1,36 @@
+// A line's word and numbers.
+use crate::fields::Fields;
+use crate::fields::numbers;
+use crate::words::First;
+use crate::words::Word;
+use crate::words::fits;
+use crate::words::word_of;
+ghost use Prim.Native.Nat.{_+_, _*_, _≤_};
+ghost use lib.ListN.{length};
+ghost use Rattle.text.specs.Reads.{Parses};
+
+pub enum Line {
+    Is(Word, usize),
+    Bad,
+}
+
+// The line's word and how many numbers follow it, which stand in front of `out`. Of a line that doesn't fit, the numbers before the first
+// bad field stand there. A field has two bytes or more, so 16,384 places do for every line of an input of 32,768 bytes.
+pub fn parse(line: &[u8], out: &mut [u64]) -> Line
+    requires { ⌜ length (now line) ≤ 2 * length (now out) + 1 ⌝ }
+    ensures { λ r. ⌜ Parses (now (line .entry)) (now (out .entry)) (now (out .exit)) r ⌝ }
+{
+    match word_of(line) {
+        First::Bad => Line::Bad,
+        First::Is(word, end) => match numbers(line, end, out) {
+            Fields::Bad => Line::Bad,
+            Fields::Count(count) => {
+                if fits(word, count) {
+                    Line::Is(word, count)
+                } else {
+                    Line::Bad
+                }
+            }
+        },
+    }
+}
