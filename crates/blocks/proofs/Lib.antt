@@ -7,3 +7,4 @@ pub mod Searching
 pub mod Again
 pub mod Chains
 pub mod Unique
+pub mod Historied
