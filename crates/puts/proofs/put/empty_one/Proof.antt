@@ -57,11 +57,12 @@ same-length-3 c = search needs
 returns-3 : tie.Need-returns-3
 returns-3 c =
     let the-swap-route = c .before .before .before .before .before .before .before .before .before .swap-route in
+    let the-before = c .before .before .before .before .before .before .before .before .before .before .before .before .before .before in
     let the-wide =
-    c .before .before .before .before .before .before .before .before .before .before .before .before .before .before
+    the-before
     .before .before .before .wide in
     let the-if2 =
-    c .before .before .before .before .before .before .before .before .before .before .before .before .before .before
+    the-before
     .before .if2 in
     let the-swap-route = the-swap-route in
     let the-enum-told = c .enum-told in
@@ -80,11 +81,12 @@ returns-4 : tie.Need-returns-4
 returns-4 c =
     let the-swap-route = c .before .before .before .before .before .before .before .before .before .before .swap-route in
     let the-h = c .before .h in
+    let the-before = c .before .before .before .before .before .before .before .before .before .before .before .before .before .before in
     let the-wide =
-    c .before .before .before .before .before .before .before .before .before .before .before .before .before .before
+    the-before
     .before .before .before .before .wide in
     let the-if2 =
-    c .before .before .before .before .before .before .before .before .before .before .before .before .before .before
+    the-before
     .before .before .if2 in
     let the-swap-route = the-swap-route in
     let the-h = the-h in

@@ -35,8 +35,9 @@ slice-aggregate-put-stops c =
 put-stops-requires : tie.Need-put-stops-requires
 put-stops-requires c κs =
     let the-snapshot = c .before .before .before .before .before .before .before .before .before .before .before .before .snapshot in
+    let the-before = c .before .before .before .before .before .before .before .before .before .before .before .before .before .before in
     let start =
-    c .before .before .before .before .before .before .before .before .before .before .before .before .before .before
+    the-before
     .before .before .before .before .before .before .before in
     let the-snapshot = the-snapshot in
     let size = start .pre .0 in
@@ -82,17 +83,18 @@ same-length-7 c = search needs
 returns-3 : tie.Need-returns-3
 returns-3 c =
     let the-put-stops = c .before .before .before .before .before .before .before .before .before .before .put-stops in
+    let the-before = c .before .before .before .before .before .before .before .before .before .before .before .before .before .before in
     let the-snapshot =
-    c .before .before .before .before .before .before .before .before .before .before .before .before .before .before
+    the-before
     .before .before .before .before .before .before .before .before .before .snapshot in
     let the-crowded =
-    c .before .before .before .before .before .before .before .before .before .before .before .before .before .before
+    the-before
     .before .before .before .before .before .crowded in
     let the-enum-told3 =
-    c .before .before .before .before .before .before .before .before .before .before .before .before .before .before
+    the-before
     .before .before .before .enum-told3 in
     let start =
-    c .before .before .before .before .before .before .before .before .before .before .before .before .before .before
+    the-before
     .before .before .before .before .before .before .before .before .before .before .before .before .before .before
     .before .before .before .before in
     let the-put-stops = the-put-stops in

@@ -55,15 +55,16 @@ same-length-8 c = search needs
 returns-2 : tie.Need-returns-2
 returns-2 c =
     let the-swap-route = c .before .before .before .before .before .before .before .before .before .before .swap-route in
+    let the-before = c .before .before .before .before .before .before .before .before .before .before .before .before .before .before in
     let start =
-    c .before .before .before .before .before .before .before .before .before .before .before .before .before .before
+    the-before
     .before .before .before .before .before .before .before .before .before .before .before .before .before .before
     .before .before .before .before .before .before in
     let the-empty-all =
-    c .before .before .before .before .before .before .before .before .before .before .before .before .before .before
+    the-before
     .before .before .before .before .before .before .before .before .before .before .empty-all in
     let the-g =
-    c .before .before .before .before .before .before .before .before .before .before .before .before .before .before
+    the-before
     .before .before .g in
     let the-swap-route = the-swap-route in
     let the-enum-told2 = c .enum-told2 in
@@ -89,15 +90,16 @@ returns-3 : tie.Need-returns-3
 returns-3 c =
     let the-swap-route = c .before .before .before .before .before .before .before .before .before .before .before .swap-route in
     let the-h = c .before .h in
+    let the-before = c .before .before .before .before .before .before .before .before .before .before .before .before .before .before in
     let start =
-    c .before .before .before .before .before .before .before .before .before .before .before .before .before .before
+    the-before
     .before .before .before .before .before .before .before .before .before .before .before .before .before .before
     .before .before .before .before .before .before .before in
     let the-empty-all =
-    c .before .before .before .before .before .before .before .before .before .before .before .before .before .before
+    the-before
     .before .before .before .before .before .before .before .before .before .before .before .empty-all in
     let the-g =
-    c .before .before .before .before .before .before .before .before .before .before .before .before .before .before
+    the-before
     .before .before .before .g in
     let the-swap-route = the-swap-route in
     let the-h = the-h in

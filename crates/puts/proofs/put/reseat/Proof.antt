@@ -51,8 +51,9 @@ returns-3 : tie.Need-returns-3
 returns-3 c =
     let the-assign = c .before .before .before .before .before .before .before .before .assign in
     let the-put-route = c .before .before .put-route in
+    let the-before = c .before .before .before .before .before .before .before .before .before .before .before .before .before .before in
     let the-unassign =
-    c .before .before .before .before .before .before .before .before .before .before .before .before .before .before
+    the-before
     .unassign in
     let the-assign = the-assign in
     let the-put-route = the-put-route in

@@ -53,8 +53,9 @@ exchange-requires c κs =
     let the-links-of2 = c .before .before .before .before .before .before .before .before .links-of2 in
     let the-if1 = c .before .before .before .before .before .before .if1 in
     let the-if2 = c .before .before .before .before .before .if2 in
+    let the-before = c .before .before .before .before .before .before .before .before .before .before .before .before .before .before in
     let start =
-    c .before .before .before .before .before .before .before .before .before .before .before .before .before .before
+    the-before
     .before .before .before .before in
     let the-links-of = the-links-of in
     let the-links-of2 = the-links-of2 in
@@ -82,14 +83,15 @@ same-length-3 c = search needs
 returns-3 : tie.Need-returns-3
 returns-3 c =
     let the-exchange = c .before .before .before .before .before .before .before .before .exchange in
+    let the-before = c .before .before .before .before .before .before .before .before .before .before .before .before .before .before in
     let start =
-    c .before .before .before .before .before .before .before .before .before .before .before .before .before .before
+    the-before
     .before .before .before .before .before .before .before .before .before .before .before .before .before in
     let the-links-of =
-    c .before .before .before .before .before .before .before .before .before .before .before .before .before .before
+    the-before
     .before .before .before .before .before .before .links-of in
     let the-links-of2 =
-    c .before .before .before .before .before .before .before .before .before .before .before .before .before .before
+    the-before
     .before .before .before .links-of2 in
     let the-exchange = the-exchange in
     let the-capped = c .capped in

@@ -30,14 +30,15 @@ enum-known-h c = search needs
 
 reseat-requires : tie.Need-reseat-requires
 reseat-requires c κs =
+    let the-before = c .before .before .before .before .before .before .before .before .before .before .before .before .before .before in
     let the-span-of =
-    c .before .before .before .before .before .before .before .before .before .before .before .before .before .before
+    the-before
     .before .before .before .before .span-of in
     let the-f =
-    c .before .before .before .before .before .before .before .before .before .before .before .before .before .before
+    the-before
     .before .before .f in
     let start =
-    c .before .before .before .before .before .before .before .before .before .before .before .before .before .before
+    the-before
     .before .before .before .before .before .before .before .before .before .before .before in
     let at = lies _ _ _ (the-span-of .ensures) _ _ _ (the-f .given .1) in
     (start .pre .0 .0, start .pre .0 .2, at .forward, omega (arith, at .inside, at .few), start .pre .0 .3)
@@ -73,8 +74,9 @@ returns-2 : tie.Need-returns-2
 returns-2 c =
     let the-f = c .before .before .before .before .before .before .before .before .before .before .before .before .before .before .f in
     let the-swap-edges = c .before .before .before .before .before .before .before .before .swap-edges in
+    let the-before = c .before .before .before .before .before .before .before .before .before .before .before .before .before .before in
     let the-span-of =
-    c .before .before .before .before .before .before .before .before .before .before .before .before .before .before
+    the-before
     .before .before .span-of in
     let the-f = the-f in
     let the-swap-edges = the-swap-edges in
@@ -97,14 +99,15 @@ same-length-9 c = search needs
 returns-3 : tie.Need-returns-3
 returns-3 c =
     let the-reseat = c .before .before .before .before .reseat in
+    let the-before = c .before .before .before .before .before .before .before .before .before .before .before .before .before .before in
     let the-span-of =
-    c .before .before .before .before .before .before .before .before .before .before .before .before .before .before
+    the-before
     .before .before .before .before .before .before .before .before .before .span-of in
     let the-f =
-    c .before .before .before .before .before .before .before .before .before .before .before .before .before .before
+    the-before
     .before .before .before .before .before .before .before .f in
     let the-swap-edges =
-    c .before .before .before .before .before .before .before .before .before .before .before .before .before .before
+    the-before
     .before .swap-edges in
     let the-reseat = the-reseat in
     let the-enum-told3 = c .enum-told3 in
@@ -127,14 +130,15 @@ returns-4 : tie.Need-returns-4
 returns-4 c =
     let the-reseat = c .before .before .before .before .reseat in
     let the-h = c .before .before .before .before .before .before .before .h in
+    let the-before = c .before .before .before .before .before .before .before .before .before .before .before .before .before .before in
     let the-span-of =
-    c .before .before .before .before .before .before .before .before .before .before .before .before .before .before
+    the-before
     .before .before .before .before .before .before .before .before .before .span-of in
     let the-f =
-    c .before .before .before .before .before .before .before .before .before .before .before .before .before .before
+    the-before
     .before .before .before .before .before .before .before .f in
     let the-swap-edges =
-    c .before .before .before .before .before .before .before .before .before .before .before .before .before .before
+    the-before
     .before .swap-edges in
     let the-reseat = the-reseat in
     let the-h = the-h in

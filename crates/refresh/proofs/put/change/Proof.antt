@@ -50,13 +50,14 @@ broad-requires c κs = search needs
 
 refresh-requires : tie.Need-refresh-requires
 refresh-requires c κs =
+    let the-before = c .before .before .before .before .before .before .before .before .before .before .before .before .before .before in
     let start =
-    c .before .before .before .before .before .before .before .before .before .before .before .before .before .before
+    the-before
     .before .before .before .before .before .before .before .before .before .before .before .before .before .before
     .before in
     let the-broad = c .broad in
     let the-put =
-    c .before .before .before .before .before .before .before .before .before .before .before .before .before .before
+    the-before
     .before .before .put in
     let the-c = c .before .before .before .before .before .before .before .c in
     let p = start .pre .0 in
@@ -121,8 +122,9 @@ same-length-7 c = search needs
 
 returns-3 : tie.Need-returns-3
 returns-3 c =
+    let the-before = c .before .before .before .before .before .before .before .before .before .before .before .before .before .before in
     let the-put =
-    c .before .before .before .before .before .before .before .before .before .before .before .before .before .before
+    the-before
     .before .before .before .before .before .before .before .put in
     let the-c = c .before .before .before .before .before .before .before .before .before .before .before .before .c in
     let the-refresh = c .before .before .before .before .refresh in
@@ -141,8 +143,9 @@ same-length-10 c = search needs
 
 returns-4 : tie.Need-returns-4
 returns-4 c =
+    let the-before = c .before .before .before .before .before .before .before .before .before .before .before .before .before .before in
     let the-put =
-    c .before .before .before .before .before .before .before .before .before .before .before .before .before .before
+    the-before
     .before .before .before .before .before .before .before .before .put in
     let the-c = c .before .before .before .before .before .before .before .before .before .before .before .before .before .c in
     let the-refresh = c .before .before .before .before .before .refresh in

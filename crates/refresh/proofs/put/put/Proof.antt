@@ -120,14 +120,16 @@ same-length-3 c = search needs
 
 returns-4 : tie.Need-returns-4
 returns-4 c =
+    let the-before = c .before .before .before .before .before .before .before .before .before .before .before .before .before .before in
+    let the-asked2 = c .before .before .before .before .before .before .before .before .before .before .before .before .before .asked in
     let the-opened =
-    c .before .before .before .before .before .before .before .before .before .before .before .before .before .before
+    the-before
     .before .before .before .opened in
     let the-plan =
-    c .before .before .before .before .before .before .before .before .before .before .before .before .before .before
+    the-before
     .before .plan in
     let the-asked =
-    c .before .before .before .before .before .before .before .before .before .before .before .before .before .asked in
+    the-asked2 in
     let the-enum-told3 = c .before .before .before .before .before .before .before .before .before .before .before .enum-told3 in
     let the-rescore = c .before .before .before .before .before .before .rescore in
     put-changed _ _ _ (the-opened .ensures) (the-plan .given .1) (the-asked .ensures) (the-enum-told3 .given .1) (the-rescore .ensures)

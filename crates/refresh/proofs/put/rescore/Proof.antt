@@ -27,8 +27,9 @@ enum-known-report c = search needs
 
 score-of-requires-2 : tie.Need-score-of-requires-2
 score-of-requires-2 c κs =
+    let the-before = c .before .before .before .before .before .before .before .before .before .before .before .before .before .before in
     let start =
-    c .before .before .before .before .before .before .before .before .before .before .before .before .before .before
+    the-before
     .before .before .before .before .before .before .before .before .before .before .before .before .before in
     let the-change = c .before .before .before .before .before .before .before .before .before .before .before .change in
     let p = start .pre in
@@ -45,11 +46,12 @@ minus-requires : tie.Need-minus-requires
 minus-requires c κs =
     let the-after = c .before .after in
     let the-score-of2 = c .before .before .before .score-of2 in
+    let the-before = c .before .before .before .before .before .before .before .before .before .before .before .before .before .before in
     let the-before2 =
-    c .before .before .before .before .before .before .before .before .before .before .before .before .before .before
+    the-before
     .before .before .before .before .before .before .before2 in
     let the-score-of =
-    c .before .before .before .before .before .before .before .before .before .before .before .before .before .before
+    the-before
     .before .before .before .before .before .before .before .before .score-of in
     let x = subst Mild (the-after .given .1) (the-score-of2 .ensures .within) in
     let y = subst Mild (the-before2 .given .1) (the-score-of .ensures .within) in
@@ -80,11 +82,12 @@ same-length-5 c = search needs
 
 returns-2 : tie.Need-returns-2
 returns-2 c =
+    let the-before = c .before .before .before .before .before .before .before .before .before .before .before .before .before .before in
     let start =
-    c .before .before .before .before .before .before .before .before .before .before .before .before .before .before
+    the-before
     .before .before .before .before .before .before .before .before .before .before .before in
     let the-score-of =
-    c .before .before .before .before .before .before .before .before .before .before .before .before .before .before
+    the-before
     .before .before .score-of in
     let the-change = c .before .before .before .before .before .before .before .before .before .change in
     let the-r2 = c .before .r2 in
@@ -102,15 +105,16 @@ same-length-8 c = search needs
 
 returns-3 : tie.Need-returns-3
 returns-3 c =
+    let the-before = c .before .before .before .before .before .before .before .before .before .before .before .before .before .before in
     let start =
-    c .before .before .before .before .before .before .before .before .before .before .before .before .before .before
+    the-before
     .before .before .before .before .before .before .before .before .before .before .before .before .before .before
     .before .before .before in
     let the-change =
-    c .before .before .before .before .before .before .before .before .before .before .before .before .before .before
+    the-before
     .before .change in
     let the-score-of =
-    c .before .before .before .before .before .before .before .before .before .before .before .before .before .before
+    the-before
     .before .before .before .before .before .before .before .before .score-of in
     let the-score-of2 = c .before .before .before .score-of2 in
     let the-report = c .before .before .before .before .before .before .before .report in
@@ -132,20 +136,21 @@ same-length-11 c = search needs
 
 returns-4 : tie.Need-returns-4
 returns-4 c =
+    let the-before = c .before .before .before .before .before .before .before .before .before .before .before .before .before .before in
     let start =
-    c .before .before .before .before .before .before .before .before .before .before .before .before .before .before
+    the-before
     .before .before .before .before .before .before .before .before .before .before .before .before .before .before
     .before .before .before .before in
     let the-change =
-    c .before .before .before .before .before .before .before .before .before .before .before .before .before .before
+    the-before
     .before .before .change in
     let the-score-of =
-    c .before .before .before .before .before .before .before .before .before .before .before .before .before .before
+    the-before
     .before .before .before .before .before .before .before .before .before .score-of in
     let the-score-of2 = c .before .before .before .before .score-of2 in
     let the-report = c .before .before .before .before .before .before .before .before .report in
     let the-before2 =
-    c .before .before .before .before .before .before .before .before .before .before .before .before .before .before
+    the-before
     .before .before .before .before .before .before .before .before2 in
     let the-after = c .before .before .after in
     let the-minus = c .minus in
