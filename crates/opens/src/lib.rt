@@ -1,0 +1,3 @@
+// The lines up to `go`: they fill tables, and print nothing.
+pub mod gathers;
+pub mod steps;

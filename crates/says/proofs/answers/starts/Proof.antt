@@ -1,0 +1,35 @@
+-- `starts`: a word, the first starts, and LF, one behind the other. Assumes nothing.
+use Rattle.says.proofs.Pieces.{prints-first}
+use borrow.Author.Needs.{needs}
+use Rattle.says.proofs.answers.starts.Statement.{statement}
+use Rattle.says.proofs.answers.starts.Tie as tie
+
+least-requires : tie.Need-least-requires
+least-requires c κs = search needs
+
+bytes-requires : tie.Need-bytes-requires
+bytes-requires c κs = search needs
+
+starts-of-requires : tie.Need-starts-of-requires
+starts-of-requires c κs = search needs
+
+byte-requires : tie.Need-byte-requires
+byte-requires c κs = search needs
+
+same-length : tie.Need-same-length
+same-length c = search needs
+
+returns : tie.Need-returns
+returns c =
+    let at-byte = c .before .before in
+    let at-list = at-byte .before .before .before .before in
+    let at-bytes = at-list .before .before .before .before in
+    let at-least = at-bytes .before .before in
+    let args = at-least .before .before .before .before .args in
+    prints-first (args .k) (args .list .now) (at-least .least .ensures) (at-bytes .bytes .ensures) (at-list .starts-of .ensures)
+    (at-byte .byte .ensures)
+
+pub starts-spec : {M : Type 1} → statement M
+starts-spec =
+    tie.close
+    (tie.spec least-requires bytes-requires starts-of-requires byte-requires same-length returns)

@@ -1,0 +1,2 @@
+-- What the printed lines are. Assumes nothing.
+pub mod Prints
