@@ -29,7 +29,7 @@ use Rattle.routes.specs.Stops.{bit, words}
 use Rattle.routes.proofs.Codes.{half}
 use Rattle.routes.proofs.Placed.{forward, stops-words}
 use Rattle.times.proofs.Graphing.{below, live-fun, span-fun, start-fun}
-use Rattle.refresh.proofs.Tabled.{part-slice}
+use Rattle.stores.proofs.Tabled.{part-slice}
 use Rattle.blocks.specs.Latests.{Timed, latestOf}
 use Rattle.blocks.specs.Arcs.{Stops, Told, jobAt, jobsIn}
 use Rattle.blocks.specs.Overs.{Rows, ahead, rowOf}

@@ -11,7 +11,7 @@ use Rattle.rules.specs.declared.Refusal.{Refusal}
 use Rattle.rules.specs.Routes.{State}
 use Rattle.rules.specs.Calls.{Reply, to-blocks, refusal, accepted, reply}
 use Rattle.rules.proofs.Refused.{refused-stays, accepted-step}
-use Rattle.refresh.specs.Promise.{Slices, answerOf}
+use Rattle.stores.specs.Promise.{Slices, answerOf}
 use Rattle.refresh.specs.History.{Kept}
 use Rattle.blocks.specs.Promise.{BlocksPromise, blocksCall}
 

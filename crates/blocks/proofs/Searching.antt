@@ -24,14 +24,14 @@ use Rattle.rules.specs.Calls.{accepted, blocked, refusal, to-blocks}
 use Rattle.rules.proofs.Ranges.{Test, pass, fail, test}
 use Rattle.rules.proofs.Runs.{blocks-cyclic}
 use Rattle.routes.specs.Desks.{edgesOf}
-use Rattle.refresh.specs.declared.header.Header.{Header}
-use Rattle.refresh.specs.declared.header.Header.the-variants.{Is as Headed, Refused as Unopened}
-use Rattle.refresh.specs.Headers.{openOf}
-use Rattle.refresh.specs.Promise.{Slices, lentOf, callOf, Held, StandsFor}
-use Rattle.refresh.proofs.Openings.{countsOf, open-is, open-none, open-short, open-some}
-use Rattle.refresh.proofs.Promises.{decided-read, decided-refused, refusal-long, refusal-short}
-use Rattle.refresh.proofs.Readings.{times-starts}
-use Rattle.refresh.proofs.Scores.{timed as times-told}
+use Rattle.stores.specs.declared.header.Header.{Header}
+use Rattle.stores.specs.declared.header.Header.the-variants.{Is as Headed, Refused as Unopened}
+use Rattle.stores.specs.Headers.{openOf}
+use Rattle.stores.specs.Promise.{Slices, lentOf, callOf, Held, StandsFor}
+use Rattle.stores.proofs.Openings.{countsOf, open-is, open-none, open-short, open-some}
+use Rattle.stores.proofs.Promises.{decided-read, decided-refused, refusal-long, refusal-short}
+use Rattle.stores.proofs.Readings.{times-starts}
+use Rattle.stores.proofs.Scores.{timed as times-told}
 use Rattle.blocks.specs.Latests.{Criticals}
 use Rattle.blocks.specs.Arcs.{Told}
 use Rattle.blocks.specs.Overs.{Counted, Stepped, ahead}

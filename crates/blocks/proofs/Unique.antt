@@ -8,9 +8,9 @@ use lib.Seq.{sets}
 use Rattle.rules.specs.declared.Block.{Block}
 use Rattle.rules.specs.Routes.{State}
 use Rattle.rules.specs.Calls.{Reply}
-use Rattle.rules.proofs.Runs.{noBlock}
+use Rattle.rules.specs.Blocks.{noBlock}
 use Rattle.rules.proofs.Tabled.{table-length}
-use Rattle.refresh.specs.Promise.{Slices, StandsFor}
+use Rattle.stores.specs.Promise.{Slices, StandsFor}
 use Rattle.blocks.specs.Promise.{BlocksDecided, BlocksPromise, blocksIn, records, saysBlocked}
 use Rattle.blocks.specs.declared.blocks.Blocked.{Blocked}
 use Rattle.blocks.specs.declared.blocks.Blocked.the-variants.{Are, Refused}

@@ -9,8 +9,8 @@ use Rattle.rules.specs.declared.Block.{Block}
 use Rattle.rules.specs.Lists.{table}
 use Rattle.rules.specs.Routes.{State}
 use Rattle.rules.specs.Calls.{Call, Reply, refused, scored, changed, counted, lined-up, cycled, started, blocked, rerouted, reply, to-blocks}
-use Rattle.rules.proofs.Runs.{noBlock}
-use Rattle.refresh.specs.Promise.{Slices, StandsFor, callOf, after}
+use Rattle.rules.specs.Blocks.{noBlock}
+use Rattle.stores.specs.Promise.{Slices, StandsFor, callOf, after}
 use Rattle.blocks.specs.declared.blocks.Blocked.{Blocked}
 use Rattle.blocks.specs.declared.blocks.Blocked.the-variants.{Are, Refused}
 

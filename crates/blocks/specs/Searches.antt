@@ -18,9 +18,9 @@ use Rattle.edges.specs.Edges.{Model}
 use Rattle.graphs.specs.Graph.{live}
 use Rattle.routes.specs.Desks.{Desked}
 use Rattle.times.specs.Words.{spanWords, startOf}
-use Rattle.refresh.specs.declared.header.Header.the-variants.{Refused as Unopened}
-use Rattle.refresh.specs.Headers.{openOf}
-use Rattle.refresh.specs.Promise.{Slices, lentOf, Held}
+use Rattle.stores.specs.declared.header.Header.the-variants.{Refused as Unopened}
+use Rattle.stores.specs.Headers.{openOf}
+use Rattle.stores.specs.Promise.{Slices, lentOf, Held}
 use Rattle.blocks.specs.Arcs.{Told}
 use Rattle.blocks.specs.Overs.{Rows, ahead}
 use Rattle.blocks.specs.declared.blocks.Blocked.{Blocked}

@@ -1,10 +1,10 @@
 // The critical blocks of a list of owners, one at a time, and how many there are.
 use crate::runs::Run;
 use crate::runs::next_run;
-use refresh::header::broad;
 use routes::rows::Span;
 use routes::rows::span_of;
 use rules::Block;
+use stores::header::broad;
 ghost use mathlib.Core.Path.{_≡_};
 ghost use Prim.Native.Nat.{_+_, _<_, _≤_};
 ghost use lib.ListN.{length};

@@ -11,10 +11,10 @@ use borrow.Author.Tests.{lt-ltb, le-ltb, ltb-false}
 use Rattle.rules.specs.Calls.{Reply}
 use Rattle.rules.specs.declared.Block.{Block}
 use Rattle.rules.proofs.Ranges.{clash}
-use Rattle.rules.proofs.Runs.{noBlock}
+use Rattle.rules.specs.Blocks.{noBlock}
 use Rattle.rules.proofs.Tabled.{table-length}
 use Rattle.rules.proofs.Members.{or-false}
-use Rattle.refresh.specs.Promise.{Slices}
+use Rattle.stores.specs.Promise.{Slices}
 use Rattle.blocks.specs.Promise.{records, saysBlocked}
 use Rattle.blocks.specs.declared.blocks.Blocked.{Blocked}
 use Rattle.blocks.specs.declared.blocks.Blocked.the-variants.{Are, Refused}

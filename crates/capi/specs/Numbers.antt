@@ -11,7 +11,7 @@ use Rattle.rules.specs.declared.Report.the-variants.{Skipped, Full, CycleFound,
 use Rattle.rules.specs.Reports.{visitsOf}
 use Rattle.rules.specs.Refusals.{numberOf}
 use Rattle.rules.specs.Calls.{Ask, Reply, refused, scored, changed, counted, lined-up, cycled, started, blocked, rerouted}
-use Rattle.refresh.specs.Promise.{Slices}
+use Rattle.stores.specs.Promise.{Slices}
 use Rattle.refresh.specs.History.{Kept}
 use Rattle.rules.specs.declared.Block.{Block}
 use Rattle.blocks.specs.Promise.{BlocksPromise}

@@ -10,7 +10,7 @@ ghost use mathlib.Core.Path.{_≡_};
 ghost use Prim.Native.Nat.{_≤_};
 ghost use lib.ListN.{length};
 ghost use lib.Seq.{sets};
-ghost use Rattle.refresh.specs.Promise.{slices};
+ghost use Rattle.stores.specs.Promise.{slices};
 ghost use Rattle.capi.specs.Numbers.{AnswersBlocks, blockedCode, blockedTold};
 
 // How many blocks, or why there is no answer.

@@ -11,7 +11,7 @@ use rules::Owner;
 ghost use lib.ListN.{length};
 ghost use Rattle.rules.specs.Calls.{to-move};
 ghost use Rattle.rules.specs.Moves.{list-change, sublist-change, sublist-swap, permutation as permuted};
-ghost use Rattle.refresh.specs.Promise.{slices};
+ghost use Rattle.stores.specs.Promise.{slices};
 ghost use Rattle.capi.specs.Numbers.{Answers};
 
 // A job to another place of its route.

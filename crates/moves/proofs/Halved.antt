@@ -15,8 +15,8 @@ use Rattle.routes.specs.Spans.{Lies}
 use Rattle.routes.specs.Stops.{bit, words}
 use Rattle.routes.specs.Store.{Holds, Model, encode, invalidIn, invalids, routeAt}
 use Rattle.routes.proofs.Placed.{stops-long, stops-words}
-use Rattle.refresh.proofs.Penalties.{counts-slice}
-use Rattle.refresh.proofs.Tabled.{taken-sets}
+use Rattle.stores.proofs.Penalties.{counts-slice}
+use Rattle.stores.proofs.Tabled.{taken-sets}
 use Rattle.moves.specs.Stopping.{Stops, halves}
 use Rattle.moves.specs.declared.stops.Route.the-variants.{Of, Broken, Bad}
 

@@ -1,6 +1,6 @@
 -- The pieces of a route, written one behind the other: what each move puts together. Assumes nothing.
 use Prim.Native.Nat.{ℕ, zero, suc, _+_, _-_, _≤_, _<_}
-use native.Mathlib.Nat.{add-zero, not-suc-le-zero, le-of-suc-le-suc}
+use native.Mathlib.Nat.{add-zero}
 use native.Mathlib.Omega.{arith}
 use mathlib.Core.Path.{_≡_, refl, sym, ap, _∙_}
 use mathlib.Core.Bool.{true, cond}
@@ -14,6 +14,7 @@ use borrow.Author.Tests.{le-leb, lt-leb, ltb-true}
 use Rattle.rules.specs.Lists.{allBelow}
 use Rattle.rules.specs.Moves.{list-change, moved, permutation, slice, sublist-change, sublist-swap}
 use Rattle.rules.proofs.Ranges.{and-true}
+use Rattle.views.proofs.Seeks.{below-at}
 use Rattle.moves.specs.Pieces.{Order, Piece, Ranges}
 
 -- the first words of a list are p, and behind them it is as `new` is
@@ -91,11 +92,6 @@ module _ {n a b c d : ℕ} {old new : List ℕ} (h : Ranges n a b c d old new) w
       l5 .is ∙ ap (λ (y : List ℕ). y ++ drop n new) swap-pieces
 
 -- ── a permutation ──
-
-pub below-at : (k : ℕ) (l : List ℕ) (i : ℕ) → allBelow k l ≡ true → i < length l → getD l i 0 < k
-below-at k [] i e h = absurd (not-suc-le-zero h)
-below-at k (x ∷ l) zero e h = ltb-true x k (and-true {a = ltb x k} e .0)
-below-at k (x ∷ l) (suc i) e h = below-at k l i (and-true {a = ltb x k} e .1) (le-of-suc-le-suc h)
 
 -- the places of a list are filled up to place i; new₀ are the words before
 pub record Filling (old : List ℕ) (a : ℕ) (list new₀ new : List ℕ) (i : ℕ) : Type 0 where

@@ -28,23 +28,23 @@ use Rattle.routes.specs.Desks.{edgesOf, routesOf}
 use Rattle.routes.specs.Store.{Holds as RoutesHold, Model, routeAt}
 use Rattle.graphs.proofs.Kahn.{memb-later, memb-self}
 use Rattle.times.proofs.Graphing.{below, live-fun}
-use Rattle.refresh.specs.Headers.{openOf}
-use Rattle.refresh.specs.Promise.{Decided, Held, Promise, Slices, answerOf, lentOf}
-use Rattle.refresh.specs.Says.{places}
-use Rattle.refresh.specs.Words.{baseWords, froms, padded, tos}
-use Rattle.refresh.specs.declared.header.Header.{Header}
-use Rattle.refresh.specs.declared.header.Header.the-variants.{Is as Headed, Refused as Unopened}
-use Rattle.refresh.proofs.Laying.{padded-length}
-use Rattle.refresh.proofs.Openings.{countsOf, open-short, open-some}
-use Rattle.refresh.proofs.Promises.{closed-kept, decided-read, decided-refused, opened-kept, refusal-long}
-use Rattle.refresh.proofs.Scores.{timed}
-use Rattle.refresh.proofs.Tabled.{part-slice, places-take, table-at, taken-sets}
+use Rattle.stores.specs.Headers.{openOf}
+use Rattle.stores.specs.Promise.{Decided, Held, Promise, Slices, answerOf, lentOf}
+use Rattle.stores.specs.Says.{places}
+use Rattle.stores.specs.Words.{baseWords, froms, padded, tos}
+use Rattle.stores.specs.declared.header.Header.{Header}
+use Rattle.stores.specs.declared.header.Header.the-variants.{Is as Headed, Refused as Unopened}
+use Rattle.loads.proofs.Laying.{padded-length}
+use Rattle.stores.proofs.Openings.{countsOf, open-short, open-some}
+use Rattle.stores.proofs.Promises.{closed-kept, decided-read, decided-refused, opened-kept, refusal-long}
+use Rattle.stores.proofs.Scores.{timed}
+use Rattle.stores.proofs.Tabled.{part-slice, places-take, table-at, taken-sets}
 use Rattle.moves.specs.Calls.{Answers, Begins, Finishes, Judges, Opens, Places, Route, Words, saysMoved}
-use Rattle.moves.specs.Gathered.{fixedIn}
-use Rattle.moves.specs.Judges.{Checks, onFor, staysFor}
-use Rattle.moves.specs.Pairs.{Rising, fromsIn, pairsIn}
-use Rattle.moves.specs.declared.checks.Checked.{Checked}
-use Rattle.moves.specs.declared.checks.Checked.the-variants.{Is as Checks-are, Bad}
+use Rattle.views.specs.Gathered.{fixedIn}
+use Rattle.probes.specs.Judges.{Checks, onFor, staysFor}
+use Rattle.views.specs.Pairs.{Rising, fromsIn, pairsIn}
+use Rattle.probes.specs.declared.checks.Checked.{Checked}
+use Rattle.probes.specs.declared.checks.Checked.the-variants.{Is as Checks-are, Bad}
 use Rattle.moves.specs.Stopping.{Stops, Whole}
 use Rattle.moves.specs.declared.moved.Begun.{Begun}
 use Rattle.moves.specs.declared.moved.Begun.the-variants.{Is as Ready, Refused as Unready}

@@ -7,9 +7,9 @@ use lib.ListN.{length}
 use Rattle.rules.specs.Calls.{to-move}
 use Rattle.rules.specs.Moves.{Move}
 use Rattle.rules.specs.Routes.{State}
-use Rattle.refresh.specs.Promise.{Promise, Slices, StandsFor}
-use Rattle.refresh.specs.Says.{places}
-use Rattle.refresh.proofs.Tabled.{places-length}
+use Rattle.stores.specs.Promise.{Promise, Slices, StandsFor}
+use Rattle.stores.specs.Says.{places}
+use Rattle.stores.proofs.Tabled.{places-length}
 use Rattle.refresh.proofs.Unique.{unique}
 use Rattle.moves.specs.Calls.{saysMoved}
 use Rattle.moves.specs.declared.moved.Moved.{Moved}

@@ -14,12 +14,12 @@ use Rattle.rules.proofs.Puts.{Sound}
 use Rattle.edges.specs.Edges.{Holds}
 use Rattle.routes.specs.Desks.{edgesOf}
 use Rattle.times.specs.Words.{timeWords}
-use Rattle.refresh.specs.Headers.{openOf}
-use Rattle.refresh.specs.Promise.{Held, Promise, Slices, lentOf}
-use Rattle.refresh.specs.Says.{places}
-use Rattle.refresh.specs.Words.{baseWords}
-use Rattle.refresh.specs.declared.header.Header.the-variants.{Is as Headed}
-use Rattle.refresh.proofs.Openings.{countsOf}
+use Rattle.stores.specs.Headers.{openOf}
+use Rattle.stores.specs.Promise.{Held, Promise, Slices, lentOf}
+use Rattle.stores.specs.Says.{places}
+use Rattle.stores.specs.Words.{baseWords}
+use Rattle.stores.specs.declared.header.Header.the-variants.{Is as Headed}
+use Rattle.stores.proofs.Openings.{countsOf}
 use Rattle.moves.specs.declared.moved.Begun.{Begun}
 use Rattle.moves.specs.declared.moved.Begun.the-variants.{Is as Ready, Refused as Unready}
 use Rattle.moves.specs.declared.moved.Moved.{Moved}

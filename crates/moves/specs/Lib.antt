@@ -1,12 +1,4 @@
--- The definitions that the contracts of `moves` cite. Assumes nothing.
+-- The new route of a move, and what the four calls promise. Assumes nothing.
 pub mod Pieces
-pub mod Chains
-pub mod Pairs
-pub mod Seen
-pub mod Gathered
-pub mod Aheads
-pub mod Fulls
-pub mod Quicks
-pub mod Judges
 pub mod Stopping
 pub mod Calls

@@ -1,23 +1,23 @@
 // The four moves: the new route into the answer buffer, and both verdicts. The store is only read.
-use crate::checks::Checked;
-use crate::checks::check;
 use crate::reroute;
 use crate::stops::Route;
 use crate::stops::are_jobs;
 use crate::stops::route_of;
-use refresh::header::Header;
-use refresh::header::broad;
-use refresh::header::opened;
+use probes::checks::Checked;
+use probes::checks::check;
 use refresh::verdict::show;
 use rules::Owner;
 use rules::Plan;
 use rules::Refusal;
+use stores::header::Header;
+use stores::header::broad;
+use stores::header::opened;
 ghost use mathlib.Core.Path.{_≡_};
 ghost use Prim.Native.Nat.{_≤_};
 ghost use lib.ListN.{length};
 ghost use Rattle.rules.specs.Calls.{to-move};
 ghost use Rattle.rules.specs.Moves.{list-change, sublist-change, sublist-swap, permutation as permuted};
-ghost use Rattle.refresh.specs.Promise.{Promise, slices};
+ghost use Rattle.stores.specs.Promise.{Promise, slices};
 ghost use Rattle.moves.specs.Calls.{Begins, Finishes, Judges, Places, saysMoved};
 
 pub enum Moved {

@@ -1,5 +1,5 @@
 // The new route of each move, written place by place.
-use refresh::header::broad;
+use stores::header::broad;
 use tables::copy;
 ghost use mathlib.Core.Path.{_≡_};
 ghost use mathlib.Core.Bool.{_&&_, true};

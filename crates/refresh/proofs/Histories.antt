@@ -26,11 +26,11 @@ use Rattle.edges.specs.Edges.{encode as edgeWords}
 use Rattle.routes.specs.Store.{encode as routeWords}
 use Rattle.routes.specs.Desks.{edgesOf, routesOf}
 use Rattle.times.specs.Words.{spanWords, timeWords}
-use Rattle.refresh.specs.Words.{baseWords}
+use Rattle.stores.specs.Words.{baseWords}
 use Rattle.routes.proofs.Wellformed.{has-words}
-use Rattle.refresh.specs.Promise.{Slices, lentOf, callOf, Stands, StandsFor, holding, unmarked, leaving, after, Decided}
+use Rattle.stores.specs.Promise.{Slices, lentOf, callOf, Stands, StandsFor, holding, unmarked, leaving, after, Decided}
 use Rattle.refresh.specs.History.{lent, back, Kept, Made, done, call, replies, Begins, zeroed, loaded, reset, Shows, a-cycle, a-line-up, Never}
-use Rattle.refresh.proofs.Openings.{long}
+use Rattle.stores.proofs.Openings.{long}
 use Rattle.refresh.proofs.Lengths.{base-long, spans-long, edges-long, routes-long, times-long}
 
 -- ── the part of a slice that is lent ──

@@ -16,8 +16,8 @@ use Rattle.edges.proofs.Store.{so, st, sc, po, pf, so-long, st-long, sc-long, p
 use Rattle.routes.specs.Store.{Model, Holds, encode as routeWords, front}
 use Rattle.routes.proofs.Waits.{front-length, waits-few}
 use Rattle.times.specs.Words.{spanWords, timeWords, startOf}
-use Rattle.refresh.specs.Words.{padded, froms, tos, baseWords}
-use Rattle.refresh.proofs.Laying.{padded-length}
+use Rattle.stores.specs.Words.{padded, froms, tos, baseWords}
+use Rattle.loads.proofs.Laying.{padded-length}
 
 pub base-long : (b : Base) → Loaded b → length (baseWords b) ≡ 6661
 unfolding baseWords

@@ -1,20 +1,6 @@
 -- Laws that belong to no one function. Assumes nothing.
-pub mod Writing
-pub mod Openings
-pub mod Tabled
-pub mod Penalties
-pub mod Promises
-pub mod Summing
-pub mod Scores
-pub mod Readings
-pub mod Resets
-pub mod Retracting
-pub mod Checking
-pub mod Laying
-pub mod Showing
 pub mod Lengths
-pub mod Histories
-pub mod Fresh
-pub mod Accepting
+pub mod Showing
 pub mod Putting
+pub mod Histories
 pub mod Unique

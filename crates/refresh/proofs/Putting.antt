@@ -34,23 +34,23 @@ use Rattle.routes.proofs.Asking.{refusalOf, ask-is, ask-owner, ask-many}
 use Rattle.times.specs.declared.settle.Settled as settled
 use Rattle.times.specs.Words.{spanWords}
 use Rattle.times.specs.Settles.{Refreshes, Refreshed}
-use Rattle.refresh.specs.declared.header.Header.{Header}
-use Rattle.refresh.specs.declared.header.Header.the-variants.{Is as Headed, Refused as Unopened}
-use Rattle.refresh.specs.declared.score.Scored as scored
+use Rattle.stores.specs.declared.header.Header.{Header}
+use Rattle.stores.specs.declared.header.Header.the-variants.{Is as Headed, Refused as Unopened}
+use Rattle.stores.specs.declared.score.Scored as scored
 use Rattle.refresh.specs.declared.put.Followed.{Followed}
 use Rattle.refresh.specs.declared.put.Followed.the-variants.{Is, Refused as Unfollowed}
 use Rattle.refresh.specs.declared.put.Changed.{Changed}
 use Rattle.refresh.specs.declared.put.Changed.the-variants.{By, Refused}
-use Rattle.refresh.specs.Words.{baseWords, padded, froms, tos}
-use Rattle.refresh.specs.Headers.{openOf}
-use Rattle.refresh.specs.Promise.{Slices, slices, lentOf, callOf, Held, holding, after, Decided, Promise}
-use Rattle.refresh.specs.Sums.{scoredAt}
+use Rattle.stores.specs.Words.{baseWords, padded, froms, tos}
+use Rattle.stores.specs.Headers.{openOf}
+use Rattle.stores.specs.Promise.{Slices, slices, lentOf, callOf, Held, holding, after, Decided, Promise}
+use Rattle.stores.specs.Sums.{scoredAt}
 use Rattle.refresh.specs.Changes.{saysChanged, Worded, Puts, Follows, Changes}
-use Rattle.refresh.proofs.Tabled.{table-at, part-slice}
-use Rattle.refresh.proofs.Laying.{padded-length}
-use Rattle.refresh.proofs.Openings.{Opened, open-is, countsOf}
-use Rattle.refresh.proofs.Promises.{closed-kept, opened-kept, decided-refused, refusal-long, held-same}
-use Rattle.refresh.proofs.Scores.{scored-held}
+use Rattle.stores.proofs.Tabled.{table-at, part-slice}
+use Rattle.loads.proofs.Laying.{padded-length}
+use Rattle.stores.proofs.Openings.{Opened, open-is, countsOf}
+use Rattle.stores.proofs.Promises.{closed-kept, opened-kept, decided-refused, refusal-long, held-same}
+use Rattle.stores.proofs.Scores.{scored-held}
 
 -- of two constructors that are said to be equal `cc` makes this
 never : {A : Type 0} → _≡_ {A = ℕ} 0 1 → A

@@ -25,16 +25,16 @@ use Rattle.kernels.specs.declared.lines.Lined.{Lined}
 use Rattle.kernels.specs.declared.lines.Lined.the-variants.{All, Stuck, Bad as Broken}
 use Rattle.searches.specs.Lowests.{Lowest, Shown}
 use Rattle.searches.specs.Cycles.{Cycles, Looped}
-use Rattle.refresh.specs.declared.header.Header.{Header}
-use Rattle.refresh.specs.declared.header.Header.the-variants.{Is as Headed, Refused as Unopened}
+use Rattle.stores.specs.declared.header.Header.{Header}
+use Rattle.stores.specs.declared.header.Header.the-variants.{Is as Headed, Refused as Unopened}
 use Rattle.refresh.specs.declared.verdict.Judged.{Judged}
 use Rattle.refresh.specs.declared.verdict.Judged.the-variants.{LineUp, Cycle}
-use Rattle.refresh.specs.Headers.{openOf}
-use Rattle.refresh.specs.Promise.{Slices, lentOf, Held, answerOf, Decided, Promise}
-use Rattle.refresh.specs.Says.{places}
+use Rattle.stores.specs.Headers.{openOf}
+use Rattle.stores.specs.Promise.{Slices, lentOf, Held, answerOf, Decided, Promise}
+use Rattle.stores.specs.Says.{places}
 use Rattle.refresh.specs.Shows.{saysVerdict, Showing, Shows, Closing}
-use Rattle.refresh.proofs.Tabled.{places-take, taken-sets}
-use Rattle.refresh.proofs.Promises.{decided-refused, refusal-long, decided-read, closed-kept, opened-kept}
+use Rattle.stores.proofs.Tabled.{places-take, taken-sets}
+use Rattle.stores.proofs.Promises.{decided-refused, refusal-long, decided-read, closed-kept, opened-kept}
 use Rattle.times.proofs.Graphing.{below}
 use Rattle.times.proofs.Judging.{order-is, cycle-is}
 

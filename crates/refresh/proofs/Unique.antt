@@ -11,23 +11,23 @@ use Rattle.rules.specs.declared.Score.{Score}
 use Rattle.rules.specs.Sizes.{Loading}
 use Rattle.rules.specs.Routes.{State}
 use Rattle.rules.specs.Calls.{Ask, Reply, refused, scored, to-load, to-score, to-reset, to-put, to-starts, to-verdict, to-retract}
-use Rattle.refresh.specs.declared.score.Scored.{Scored}
-use Rattle.refresh.specs.declared.score.Scored.the-variants.{Is, Refused}
-use Rattle.refresh.specs.declared.score.Counted.{Counted}
-use Rattle.refresh.specs.declared.score.Counted.the-variants.{Is as Counts, Refused as Uncounted}
-use Rattle.refresh.specs.declared.reset.Ended.{Ended}
-use Rattle.refresh.specs.declared.reset.Ended.the-variants.{Fine, Refused as Unended}
-use Rattle.refresh.specs.declared.starts.Started.{Started}
-use Rattle.refresh.specs.declared.starts.Started.the-variants.{All, Refused as Unstarted}
+use Rattle.stores.specs.declared.score.Scored.{Scored}
+use Rattle.stores.specs.declared.score.Scored.the-variants.{Is, Refused}
+use Rattle.stores.specs.declared.score.Counted.{Counted}
+use Rattle.stores.specs.declared.score.Counted.the-variants.{Is as Counts, Refused as Uncounted}
+use Rattle.stores.specs.declared.reset.Ended.{Ended}
+use Rattle.stores.specs.declared.reset.Ended.the-variants.{Fine, Refused as Unended}
+use Rattle.stores.specs.declared.starts.Started.{Started}
+use Rattle.stores.specs.declared.starts.Started.the-variants.{All, Refused as Unstarted}
 use Rattle.refresh.specs.declared.verdict.Judged.{Judged}
 use Rattle.refresh.specs.declared.verdict.Judged.the-variants.{LineUp, Cycle, Refused as Unjudged}
-use Rattle.refresh.specs.Promise.{Slices, StandsFor, answerOf, Decided, Promise, AnyPromise, Reads}
-use Rattle.refresh.specs.Says.{saysScored, saysCounted, saysEnded, saysStarted, places}
+use Rattle.stores.specs.Promise.{Slices, StandsFor, answerOf, Decided, Promise, AnyPromise, Reads}
+use Rattle.stores.specs.Says.{saysScored, saysCounted, saysEnded, saysStarted, places}
 use Rattle.refresh.specs.Shows.{saysVerdict}
 use Rattle.refresh.specs.declared.put.Changed.{Changed}
 use Rattle.refresh.specs.declared.put.Changed.the-variants.{By, Refused as Unchanged}
 use Rattle.refresh.specs.Changes.{saysChanged}
-use Rattle.refresh.proofs.Tabled.{places-length}
+use Rattle.stores.proofs.Tabled.{places-length}
 
 -- ── as the rules have replies ──
 

@@ -15,8 +15,8 @@ use Rattle.refresh.specs.declared.put.Followed.{Followed}
 use Rattle.refresh.specs.declared.put.Followed.the-variants.{Is, Refused as Unfollowed}
 use Rattle.refresh.specs.declared.put.Changed.{Changed}
 use Rattle.refresh.specs.declared.put.Changed.the-variants.{By, Refused}
-use Rattle.refresh.specs.Words.{baseWords}
-use Rattle.refresh.specs.Promise.{Slices}
+use Rattle.stores.specs.Words.{baseWords}
+use Rattle.stores.specs.Promise.{Slices}
 
 -- put: the score change and the report
 abbrev pub saysChanged : Changed → Reply

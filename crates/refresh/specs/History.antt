@@ -13,7 +13,7 @@ use Rattle.rules.specs.Routes.{Plan, State, live}
 use Rattle.rules.specs.Scores.{isCyclic}
 use Rattle.rules.specs.Calls.{Ask, Call, Reply, to-load, to-reset, to-retract, to-put, to-score, to-verdict, to-starts, to-blocks, to-move}
 use Rattle.rules.specs.Calls.{refused, lined-up, cycled, refusal, step, reply}
-use Rattle.refresh.specs.Promise.{Slices, slices, callOf, Promise, AnyPromise}
+use Rattle.stores.specs.Promise.{Slices, slices, callOf, Promise, AnyPromise}
 
 -- ── one call ──
 

@@ -1,11 +1,4 @@
--- What layer 3 promises. Assumes nothing.
-pub mod Words
-pub mod Promise
-pub mod Headers
-pub mod Sums
-pub mod Says
-pub mod Loads
+-- What put and verdict promise, and a history of calls. Assumes nothing.
 pub mod Shows
-pub mod History
-pub mod Fills
 pub mod Changes
+pub mod History

@@ -12,8 +12,8 @@ use Rattle.edges.specs.Edges.{Holds}
 use Rattle.routes.specs.Desks.{edgesOf}
 use Rattle.refresh.specs.declared.verdict.Judged.{Judged}
 use Rattle.refresh.specs.declared.verdict.Judged.the-variants.{LineUp, Cycle, Refused}
-use Rattle.refresh.specs.Promise.{answerOf}
-use Rattle.refresh.specs.Says.{places}
+use Rattle.stores.specs.Promise.{answerOf}
+use Rattle.stores.specs.Says.{places}
 
 -- verdict: a line-up of so many jobs, or a cycle of so many
 abbrev pub saysVerdict : List ℕ → Judged → Reply

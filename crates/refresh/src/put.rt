@@ -1,9 +1,4 @@
 // A put: score after minus score before, and the report.
-use crate::header::Header;
-use crate::header::broad;
-use crate::header::opened;
-use crate::score::Scored;
-use crate::score::score_of;
 use puts::put::Outcome;
 use routes::ask::Ask;
 use routes::ask::asked;
@@ -12,6 +7,11 @@ use rules::Plan;
 use rules::Refusal;
 use rules::Report;
 use rules::Score;
+use stores::header::Header;
+use stores::header::broad;
+use stores::header::opened;
+use stores::score::Scored;
+use stores::score::score_of;
 use times::settle::Settled;
 use times::settle::refresh;
 ghost use mathlib.Core.Path.{_≡_};
@@ -19,7 +19,7 @@ ghost use mathlib.Core.List.{[]};
 ghost use Prim.Native.Nat.{_≤_, _<_};
 ghost use lib.ListN.{length};
 ghost use Rattle.rules.specs.Calls.{to-put};
-ghost use Rattle.refresh.specs.Promise.{Promise, slices};
+ghost use Rattle.stores.specs.Promise.{Promise, slices};
 ghost use Rattle.refresh.specs.Changes.{Follows, Changes, saysChanged};
 
 enum Followed {

@@ -1,18 +1,18 @@
 // The shown line-up, or the shown cycle.
-use crate::header::Header;
-use crate::header::broad;
-use crate::header::opened;
 use kernels::lines::Lined;
 use kernels::rows::Tail;
 use rules::Refusal;
 use searches::cycles::cycle;
 use searches::lowests::lowest_up;
+use stores::header::Header;
+use stores::header::broad;
+use stores::header::opened;
 ghost use mathlib.Core.Path.{_≡_};
 ghost use Prim.Native.Nat.{_≤_};
 ghost use lib.ListN.{length, take};
 ghost use lib.Seq.{sets};
 ghost use Rattle.rules.specs.Calls.{to-verdict};
-ghost use Rattle.refresh.specs.Promise.{Promise, slices};
+ghost use Rattle.stores.specs.Promise.{Promise, slices};
 ghost use Rattle.refresh.specs.Shows.{Closing, Shows, saysVerdict};
 
 pub enum Judged {

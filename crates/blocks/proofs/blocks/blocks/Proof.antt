@@ -51,7 +51,7 @@ use denote.Exit.{yes}
 use denote.Signature.{plain}
 use borrow.Author.Tests.{lt-ltb, le-ltb, ltb-true, ltb-false}
 use Rattle.rules.specs.declared.Block.{Block}
-use Rattle.refresh.specs.Promise.{Slices, slices}
+use Rattle.stores.specs.Promise.{Slices, slices}
 use Rattle.blocks.specs.Searches.{Moved, Searched}
 use Rattle.blocks.specs.declared.blocks.Search.{Search}
 use Rattle.blocks.specs.declared.blocks.Spot.{Spot}

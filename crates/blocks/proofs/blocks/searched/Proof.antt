@@ -2,7 +2,7 @@
 use native.Mathlib.Omega.{arith}
 use mathlib.Core.Path.{sym, refl, _∙_}
 use lib.ListN.{length-take, length-drop}
-use Rattle.refresh.proofs.Openings.{open-is}
+use Rattle.stores.proofs.Openings.{open-is}
 use Rattle.blocks.proofs.Searching
 use borrow.Author.Needs.{needs}
 use Rattle.blocks.proofs.blocks.searched.Statement.{statement}

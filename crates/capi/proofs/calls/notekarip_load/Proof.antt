@@ -1,6 +1,6 @@
 -- `notekarip_load`. Assumes nothing.
 use mathlib.Core.Path.{refl}
-use Rattle.refresh.specs.Says.{saysScored}
+use Rattle.stores.specs.Says.{saysScored}
 use Rattle.capi.proofs.Answering.{long-score, crowded, answered}
 use borrow.Author.Needs.{needs}
 use Rattle.capi.proofs.calls.notekarip_load.Statement.{statement}

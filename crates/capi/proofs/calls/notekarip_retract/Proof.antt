@@ -1,6 +1,6 @@
 -- `notekarip_retract`. Assumes nothing.
 use mathlib.Core.Path.{refl}
-use Rattle.refresh.specs.Says.{saysEnded}
+use Rattle.stores.specs.Says.{saysEnded}
 use Rattle.capi.proofs.Answering.{long-score, crowded, answered}
 use borrow.Author.Needs.{needs}
 use Rattle.capi.proofs.calls.notekarip_retract.Statement.{statement}

@@ -1,7 +1,7 @@
 -- `notekarip_starts`. Assumes nothing.
 use mathlib.Core.Path.{refl}
-use Rattle.refresh.specs.Says.{saysStarted}
-use Rattle.refresh.proofs.Tabled.{places-length}
+use Rattle.stores.specs.Says.{saysStarted}
+use Rattle.stores.proofs.Tabled.{places-length}
 use Rattle.capi.proofs.Answering.{long-told, crowded, answered}
 use borrow.Author.Needs.{needs}
 use Rattle.capi.proofs.calls.notekarip_starts.Statement.{statement}

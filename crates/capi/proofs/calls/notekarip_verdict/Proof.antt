@@ -1,7 +1,7 @@
 -- `notekarip_verdict`. Assumes nothing.
 use mathlib.Core.Path.{refl}
 use Rattle.refresh.specs.Shows.{saysVerdict}
-use Rattle.refresh.proofs.Tabled.{places-length}
+use Rattle.stores.proofs.Tabled.{places-length}
 use Rattle.capi.proofs.Answering.{long-told, crowded, answered}
 use borrow.Author.Needs.{needs}
 use Rattle.capi.proofs.calls.notekarip_verdict.Statement.{statement}

@@ -47,7 +47,7 @@ use denote.Exit.{yes}
 use denote.Signature.{plain, shrSliceOf}
 use Rattle.rules.specs.declared.Block.{Block}
 use Rattle.rules.specs.Calls.{Reply}
-use Rattle.refresh.specs.Promise.{Slices, slices}
+use Rattle.stores.specs.Promise.{Slices, slices}
 use Rattle.blocks.specs.Promise.{BlocksPromise, saysBlocked}
 use Rattle.blocks.specs.declared.blocks.Blocked.{Blocked}
 use Rattle.blocks.proofs.Chains.{fsplit8, fjoin8, split8, join8}

@@ -1,6 +1,6 @@
 -- `notekarip_list_change`. Assumes nothing.
 use mathlib.Core.Path.{refl}
-use Rattle.refresh.proofs.Tabled.{places-length}
+use Rattle.stores.proofs.Tabled.{places-length}
 use Rattle.moves.specs.Calls.{saysMoved}
 use Rattle.capi.proofs.Answering.{long-told, crowded, answered}
 use borrow.Author.Needs.{needs}

@@ -1,6 +1,6 @@
 -- `permutation`. Assumes nothing.
 use Rattle.moves.proofs.Promised.{moved-finished, moved-positions, moved-refused, ready}
-use Rattle.refresh.proofs.Openings.{open-is}
+use Rattle.stores.proofs.Openings.{open-is}
 use borrow.Author.Tests.{not-false, not-true}
 use lib.ListN.{length-take}
 use mathlib.Core.Path.{refl, _∙_}

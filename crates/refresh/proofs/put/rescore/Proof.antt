@@ -1,7 +1,7 @@
 -- `rescore`. Assumes nothing.
 use native.Mathlib.Omega.{arith}
 use mathlib.Core.Path.{subst, _∙_}
-use Rattle.refresh.specs.Sums.{Mild}
+use Rattle.stores.specs.Sums.{Mild}
 use Rattle.refresh.proofs.Putting.{rescore-bad, rescore-refused, rescore-lost, rescore-done}
 use borrow.Author.Needs.{needs}
 use Rattle.refresh.proofs.put.rescore.Statement.{statement}

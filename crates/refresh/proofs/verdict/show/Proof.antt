@@ -2,7 +2,7 @@
 use Prim.Native.Nat.{_+_, _-_}
 use native.Mathlib.Omega.{arith}
 use mathlib.Core.Path.{_≡_}
-use Rattle.refresh.proofs.Writing.{Copying, copy-none, copy-turn, copy-done}
+use Rattle.stores.proofs.Writing.{Copying, copy-none, copy-turn, copy-done}
 use borrow.Author.Needs.{needs}
 use Rattle.refresh.proofs.verdict.show.Statement.{statement}
 use Rattle.refresh.proofs.verdict.show.Tie as tie

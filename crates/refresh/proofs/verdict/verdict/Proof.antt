@@ -2,7 +2,7 @@
 use native.Mathlib.Omega.{arith}
 use mathlib.Core.Path.{sym, _∙_}
 use lib.ListN.{length-take}
-use Rattle.refresh.proofs.Openings.{open-is}
+use Rattle.stores.proofs.Openings.{open-is}
 use Rattle.refresh.proofs.Showing.{verdict-closed, verdict-few, verdict-shown}
 use borrow.Author.Needs.{needs}
 use Rattle.refresh.proofs.verdict.verdict.Statement.{statement}

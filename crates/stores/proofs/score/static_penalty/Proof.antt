@@ -1,0 +1,60 @@
+-- `static_penalty`: the sum of its three parts, which fits. Assumes nothing.
+use native.Mathlib.Omega.{arith}
+use Rattle.stores.proofs.Scores.{penal-of}
+use borrow.Author.Needs.{needs}
+use Rattle.stores.proofs.score.static_penalty.Statement.{statement}
+use Rattle.stores.proofs.score.static_penalty.Tie as tie
+
+shared-slice-read-fixed : tie.Need-shared-slice-read-fixed
+shared-slice-read-fixed c = search needs
+
+cast-fixed : tie.Need-cast-fixed
+cast-fixed c =
+    let the-shared-slice-known3 = c .shared-slice-known3 in
+    omega (arith, the-shared-slice-known3 .given 4)
+
+sum-of-requires : tie.Need-sum-of-requires
+sum-of-requires c κs = search needs
+
+broad-requires : tie.Need-broad-requires
+broad-requires c κs = search needs
+
+assignments-requires : tie.Need-assignments-requires
+assignments-requires c κs = search needs
+
+add-result : tie.Need-add-result
+add-result c =
+    let the-sum-of = c .before .before .sum-of in
+    let the-shared-slice-known3 = c .before .before .before .shared-slice-known3 in
+    let a = the-sum-of .ensures .few in let b = the-shared-slice-known3 .given 4 in omega arith
+
+add-result-2 : tie.Need-add-result-2
+add-result-2 c =
+    let the-sum-of = c .before .before .sum-of in
+    let the-assignments = c .assignments in
+    let the-shared-slice-known3 = c .before .before .before .shared-slice-known3 in
+    let a = the-sum-of .ensures .few in let b = the-assignments .ensures .few in let d = the-shared-slice-known3 .given 4 in
+    omega arith
+
+returns : tie.Need-returns
+returns c =
+    let the-shared-slice-known3 = c .before .before .before .shared-slice-known3 in
+    let the-sum-of = c .before .before .sum-of in
+    let the-assignments = c .assignments in
+    let the-broad = c .before .broad in
+    let start = c .before .before .before .before .before .before in
+    let d = the-shared-slice-known3 .given 4 in
+    penal-of (omega arith) (the-sum-of .ensures) (the-assignments .ensures) (the-broad .ensures) (start .pre .2)
+
+pub static-penalty-spec : {M : Type 1} → statement M
+static-penalty-spec =
+    tie.close
+    (tie.spec
+    shared-slice-read-fixed
+    cast-fixed
+    sum-of-requires
+    broad-requires
+    assignments-requires
+    add-result
+    add-result-2
+    returns)

@@ -1,0 +1,73 @@
+-- `sum_of`: what is still to sum, and what is summed, make the whole. Assumes nothing.
+use Prim.Native.Nat.{_-_}
+use Rattle.stores.proofs.Summing.{Summing, sum-none, sum-turn, sum-done}
+use native.Mathlib.Omega.{arith}
+use borrow.Author.Needs.{needs}
+use Rattle.stores.proofs.score.sum_of.Statement.{statement}
+use Rattle.stores.proofs.score.sum_of.Tie as tie
+
+abbrev Inv-loop : tie.InvT-loop
+Inv-loop r f t sum₀ i₀ sum i = Summing r f t sum i
+
+abbrev μ-loop : tie.MeasureT-loop
+μ-loop r f t sum₀ i₀ sum i = t - i
+
+loop-holds : tie.Need-loop-holds Inv-loop μ-loop
+loop-holds c =
+    let start = c in
+    sum-none _ _ _ (start .pre .0)
+
+mul-sum : tie.Need-mul-sum Inv-loop μ-loop
+mul-sum c = search needs
+
+shared-slice-read-sum : tie.Need-shared-slice-read-sum Inv-loop μ-loop
+shared-slice-read-sum c = search needs
+
+cast-sum : tie.Need-cast-sum Inv-loop μ-loop
+cast-sum c =
+    let the-shared-slice-known = c .shared-slice-known in
+    let the-loop = c .before .before .loop in
+    omega (arith, the-shared-slice-known .given (the-loop .i))
+
+add-sum : tie.Need-add-sum Inv-loop μ-loop
+add-sum c =
+    let the-shared-slice-known = c .shared-slice-known in
+    let the-loop = c .before .before .loop in
+    omega (arith, the-shared-slice-known .given (the-loop .i))
+
+add-i : tie.Need-add-i Inv-loop μ-loop
+add-i c = search needs
+
+loop-less : tie.Need-loop-less Inv-loop μ-loop
+loop-less c = search needs
+
+loop-again : tie.Need-loop-again Inv-loop μ-loop
+loop-again c =
+    let the-shared-slice-known = c .shared-slice-known in
+    let the-loop = c .before .before .loop in
+    let the-loop-test = c .before .loop-test in
+    let start = c .before .before .before in
+    let word = the-shared-slice-known .given (the-loop .i) in
+    sum-turn (the-loop .inv) (the-loop-test .taken) (start .pre .1) (omega arith)
+
+returns : tie.Need-returns Inv-loop μ-loop
+returns c =
+    let the-loop = c .before .loop in
+    let the-loop-test = c .loop-test in
+    sum-done (the-loop .inv) (the-loop-test .left)
+
+pub sum-of-spec : {M : Type 1} → statement M
+sum-of-spec =
+    tie.close
+    (tie.spec
+    Inv-loop
+    μ-loop
+    loop-holds
+    mul-sum
+    shared-slice-read-sum
+    cast-sum
+    add-sum
+    add-i
+    loop-less
+    loop-again
+    returns)

@@ -1,0 +1,94 @@
+-- `starts`: by what the header says, then by the room for the answer. Assumes nothing.
+use lib.ListN.{length-take, length-drop}
+use native.Mathlib.Omega.{arith}
+use mathlib.Core.Path.{sym, _∙_}
+use Rattle.stores.proofs.Openings.{open-is}
+use Rattle.stores.proofs.Readings.{starts-closed, starts-few, starts-all}
+use borrow.Author.Needs.{needs}
+use Rattle.stores.proofs.starts.starts.Statement.{statement}
+use Rattle.stores.proofs.starts.starts.Tie as tie
+
+opened-requires : tie.Need-opened-requires
+opened-requires c κs = search needs
+
+enum-known-r : tie.Need-enum-known-r
+enum-known-r c = search needs
+
+enum-known-plan : tie.Need-enum-known-plan
+enum-known-plan c = search needs
+
+broad-requires : tie.Need-broad-requires
+broad-requires c κs = search needs
+
+returns : tie.Need-returns
+returns c =
+    let the-broad = c .before .broad in
+    let the-if1 = c .if1 in
+    let the-opened = c .before .before .before .before .before .opened in
+    let the-plan = c .before .before .before .plan in
+    let b = the-broad .ensures in
+    let d = the-if1 .taken in
+    starts-few _ _ (the-opened .ensures) (the-plan .given .1) (omega arith)
+
+sub-copy : tie.Need-sub-copy
+sub-copy c = search needs
+
+part-copy-start : tie.Need-part-copy-start
+part-copy-start c = search needs
+
+part-copy-end : tie.Need-part-copy-end
+part-copy-end c =
+    let the-opened = c .before .before .before .before .before .before .opened in
+    let the-plan = c .before .before .before .before .plan in
+    let o = open-is _ _ _ (sym (the-opened .ensures) ∙ the-plan .given .1) in
+    let l = o .long .times in
+    omega arith
+
+copy-requires : tie.Need-copy-requires
+copy-requires c κs =
+    let the-opened = c .before .before .before .before .before .before .before .opened in
+    let the-plan = c .before .before .before .before .before .plan in
+    let the-broad = c .before .before .before .broad in
+    let the-if1 = c .before .before .if1 in
+    let o = open-is _ _ _ (sym (the-opened .ensures) ∙ the-plan .given .1) in
+    let j = o .jobs in
+    let l = o .long .times in
+    let b = the-broad .ensures in
+    let d = the-if1 .left in
+    (omega arith, simp (length-take, length-drop) (omega arith))
+
+returns-2 : tie.Need-returns-2
+returns-2 c =
+    let the-opened = c .before .before .before .opened in
+    let the-r = c .before .r in
+    starts-closed _ _ (the-opened .ensures) (the-r .given .1)
+
+same-length : tie.Need-same-length
+same-length c = search needs
+
+returns-3 : tie.Need-returns-3
+returns-3 c =
+    let the-if1 = c .before .before .before .before .before .if1 in
+    let the-opened = c .before .before .before .before .before .before .before .before .before .before .opened in
+    let the-plan = c .before .before .before .before .before .before .before .before .plan in
+    let the-broad = c .before .before .before .before .before .before .broad in
+    let the-copy = c .before .before .copy in
+    let d = the-if1 .left in
+    starts-all _ _ (the-opened .ensures) (the-plan .given .1) (the-broad .ensures) (omega arith) (the-copy .ensures)
+
+pub starts-spec : {M : Type 1} → statement M
+starts-spec =
+    tie.close
+    (tie.spec
+    opened-requires
+    enum-known-r
+    enum-known-plan
+    broad-requires
+    returns
+    sub-copy
+    part-copy-start
+    part-copy-end
+    copy-requires
+    returns-2
+    same-length
+    returns-3)

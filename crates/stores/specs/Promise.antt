@@ -1,0 +1,115 @@
+-- What a public call promises: the reply, every word of every lent slice afterwards, and the answer buffer, all told by the rules from the
+-- state that the store stands for. Assumes nothing.
+use Prim.Native.Nat.{ℕ}
+use mathlib.Core.Path.{_≡_}
+use mathlib.Core.Bool.{false}
+use mathlib.Core.Option.{Option, none, some}
+use mathlib.Core.List.{List, [], _++_}
+use lib.ListN.{length, getD, set, take, drop}
+use lib.Seq.{sets}
+use Rattle.rules.specs.declared.Refusal.{Refusal}
+use Rattle.rules.specs.Sizes.{Lent, isShort}
+use Rattle.rules.specs.Routes.{Plan, State}
+use Rattle.rules.specs.Calls.{Ask, Call, Reply, refused, scored, changed, counted, lined-up, cycled, started, blocked, rerouted, refusal}
+use Rattle.rules.specs.Calls.{reply, step}
+use Rattle.edges.specs.Edges.{encode as edgeWords}
+use Rattle.routes.specs.Store.{encode as routeWords}
+use Rattle.routes.specs.Desks.{edgesOf, routesOf, Desked}
+use Rattle.times.specs.Words.{spanWords, timeWords}
+use Rattle.stores.specs.Words.{baseWords}
+
+-- what the five slices hold that a call is lent
+pub record Slices : Type 0 where
+  pub base : List ℕ
+  pub spans : List ℕ
+  pub edges : List ℕ
+  pub routes : List ℕ
+  pub times : List ℕ
+
+abbrev pub slices : List ℕ → List ℕ → List ℕ → List ℕ → List ℕ → Slices
+slices base spans edges routes times = record { base = base; spans = spans; edges = edges; routes = routes; times = times }
+
+abbrev pub lentOf : Slices → Lent
+lentOf s = record {
+  base = length (s .base);
+  spans = length (s .spans);
+  edges = length (s .edges);
+  routes = length (s .routes);
+  times = length (s .times);
+}
+
+abbrev pub callOf : Ask → Slices → Call
+callOf a s = record { lent = lentOf s; asks = a }
+
+-- a slice may be longer than its constant: its first words are those of the plan
+pub record Held (s : Slices) (p : Plan) : Type 0 where
+  pub base : take 6661 (s .base) ≡ baseWords (p .base)
+  pub spans : take 512 (s .spans) ≡ spanWords (p .base)
+  pub desk : Desked (take 1794 (s .routes)) (take 13314 (s .edges)) p
+  pub times : take 514 (s .times) ≡ timeWords p
+
+-- the store stands for a state: not loaded (its mark is 0, and the other words are free), or a plan
+abbrev pub Stands : Slices → State → Type 0
+Stands s none = getD (s .base) 0 0 ≡ 0
+Stands s (some p) = Held s p
+
+-- unless a slice is too short, which is all that counts then
+abbrev pub StandsFor : Slices → State → Type 0
+StandsFor s t = isShort (lentOf s) ≡ false → Stands s t
+
+-- the slices once a plan is written; what lies beyond the constants stays
+unfoldable pub holding : Plan → Slices → Slices
+holding p s = record {
+  base = baseWords (p .base) ++ drop 6661 (s .base);
+  spans = spanWords (p .base) ++ drop 512 (s .spans);
+  edges = edgeWords (edgesOf p) ++ drop 13314 (s .edges);
+  routes = routeWords (routesOf p) ++ drop 1794 (s .routes);
+  times = timeWords p ++ drop 514 (s .times);
+}
+
+-- a store that is not loaded any more: its mark is 0
+unfoldable pub unmarked : Slices → Slices
+unmarked s = record { base = set (s .base) 0 0; spans = s .spans; edges = s .edges; routes = s .routes; times = s .times }
+
+abbrev pub leaving : State → Slices → Slices
+leaving none s = unmarked s
+leaving (some p) s = holding p s
+
+-- "Refusals 1 to 11 change nothing"
+abbrev pub unless : Option Refusal → Slices → Slices → Slices
+unless none s s′ = s′
+unless (some r) s s′ = s
+
+-- every word of the slices after a call, in the state t
+unfoldable pub after : State → Call → Slices → Slices
+after t c s = unless (refusal t c) s (leaving (step t c .state) s)
+
+-- what is written into the answer buffer: "Answer places beyond the answer are not touched."
+abbrev pub answerOf : Reply → List ℕ
+answerOf (refused r) = []
+answerOf (scored s) = []
+answerOf (changed s r) = []
+answerOf (counted s k) = []
+answerOf (lined-up l) = l
+answerOf (cycled l) = l
+answerOf (started l) = l
+answerOf (blocked l) = []
+answerOf (rerouted l q f) = l
+
+-- the reply r, the slices s′ and the answer buffer out′ are what the rules say of a call in the state t
+pub record Decided (t : State) (a : Ask) (s s′ : Slices) (out out′ : List ℕ) (r : Reply) : Type 0 where
+  pub says : r ≡ reply t (callOf a s)
+  pub leaves : s′ ≡ after t (callOf a s) s
+  pub answers : out′ ≡ sets out 0 (answerOf r)
+
+-- of every state that the store stands for
+pub record Promise (a : Ask) (s s′ : Slices) (out out′ : List ℕ) (r : Reply) : Type 0 where
+  pub decides : (t : State) → StandsFor s t → Decided t a s s′ out out′ r
+
+-- a call that only reads the store, and has no answer buffer
+abbrev pub Reads : Ask → Slices → Reply → Type 0
+Reads a s r = Promise a s s [] [] r
+
+-- load and reset take whatever was there: they promise the same of any contents
+pub record AnyPromise (a : Ask) (s s′ : Slices) (r : Reply) : Type 0 where
+  pub decides : (t : State) → Decided t a s s′ [] [] r
