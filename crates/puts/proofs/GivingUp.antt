@@ -2,28 +2,27 @@
 use Prim.Native.Nat.{ℕ, zero, suc, _+_, _-_, _≤_, _<_}
 use mathlib.Core.Path.{_≡_, refl, sym, ap, subst, _∙_}
 use mathlib.Core.Bool.{Bool, true, false, cond}
-use mathlib.Core.List.{List, [], _∷_, _++_, map, append-nil}
+use mathlib.Core.List.{List, [], _∷_, _++_, append-nil}
 use native.Mathlib.Numerals.{add-one}
 use native.Mathlib.Omega.{arith}
 use native.Mathlib.Nat.{not-suc-le-zero}
 use lib.Dec.{eqb}
-use lib.ListN.{length, getD, set, take, drop}
-use lib.Seq.{sets, slice, take-suc, take-all, getD-drop, getD-take}
+use lib.ListN.{length, getD, take}
+use lib.Seq.{take-suc, take-all, getD-drop, getD-take}
 use borrow.Author.Tests.{eq-eqb, ne-eqb}
-use Rattle.rules.specs.Lists.{Pair, memb}
+use Rattle.rules.specs.Lists.{memb}
 use Rattle.rules.specs.Sizes.{mostEntries, mostOwners}
-use Rattle.rules.specs.Routes.{Plan, Route, Emptied, Stage, emptyRoute, routeOf, inForce, empty, emptied, without}
+use Rattle.rules.specs.Routes.{Plan, Route, Emptied, emptyRoute, routeOf, inForce, empty, emptied, without}
 use Rattle.rules.proofs.Ranges.{clash}
 use Rattle.rules.proofs.Walks.{or-right}
 use Rattle.rules.proofs.Stages.{empty-read, sum-at}
-use Rattle.rules.proofs.Puts.{Sound, Loaded}
+use Rattle.rules.proofs.Puts.{Sound}
 use Rattle.rules.proofs.Steps.{staging, turning, amid, begun, unwaited}
 use Rattle.rules.proofs.Steps.{without-turns, without-went, empty-more, empty-none, emptied-all, given-up}
-use Rattle.edges.specs.Edges.{Holds as EdgesHold}
 use Rattle.routes.specs.declared.exchange.Swap as swap
 use Rattle.routes.specs.declared.wait.Sum.{Sum}
 use Rattle.routes.specs.declared.wait.Sum.the-variants.{Is, Bad}
-use Rattle.routes.specs.Store.{Model, Holds, withWaiting}
+use Rattle.routes.specs.Store.{Model, Holds}
 use Rattle.routes.specs.Freed.{Cleared}
 use Rattle.routes.specs.Desks.{edgesFrom, edgesOf, routesOf, Desked}
 use Rattle.puts.specs.Puts.{Queues, Gives, Turned, RouteTurn, Within, SumWithin}

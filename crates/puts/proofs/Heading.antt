@@ -1,8 +1,7 @@
 -- The heads that an exchange hands up: how many they are at most, and what is read of the lists they are written to. Assumes nothing.
-use Prim.Native.Nat.{ℕ, zero, suc, _+_, _-_, _*_, _/_, _%_, _≤_, _<_}
+use Prim.Native.Nat.{ℕ, suc, _+_, _-_, _*_, _/_, _%_, _≤_}
 use mathlib.Core.Path.{_≡_, refl, sym, ap, _∙_}
 use mathlib.Core.Bool.{Bool, true, false, cond}
-use mathlib.Core.Logic.{⊎-elim}
 use mathlib.Core.List.{List, [], _∷_, _++_, map}
 use native.Mathlib.Omega.{arith}
 use lib.Dec.{eqb}
@@ -10,7 +9,7 @@ use lib.ListN.{length, take, drop, length-append, length-map}
 use lib.Seq.{sets, slice, sets-eq, take-at, length-take-le, length-slice}
 use borrow.Author.Tests.{eq-eqb}
 use Rattle.rules.specs.Lists.{Pair, keep, memb}
-use Rattle.rules.specs.Routes.{Stage, exchange}
+use Rattle.rules.specs.Routes.{exchange}
 use Rattle.rules.specs.Reports.{push, headOf}
 use Rattle.rules.proofs.Ranges.{clash}
 use Rattle.rules.proofs.Stages.{tips}
@@ -19,7 +18,7 @@ use Rattle.edges.specs.Edges.{Model}
 use Rattle.routes.specs.declared.exchange.Swap.{Swap}
 use Rattle.routes.specs.Differs.{codes, Linked}
 use Rattle.routes.specs.Turns.{head}
-use Rattle.routes.specs.Exchanged.{pairOf, headsOnce, stageOf, Exchanged}
+use Rattle.routes.specs.Exchanged.{pairOf, headsOnce}
 use Rattle.routes.specs.Swapped.{Swapped}
 use Rattle.puts.specs.Puts.{Queues}
 

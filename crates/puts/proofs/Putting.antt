@@ -1,17 +1,15 @@
 -- A put: the waiting owners are emptied, then the owner's route becomes the new one. Assumes nothing.
-use Prim.Native.Nat.{ℕ, zero, suc, _+_, _-_, _≤_, _<_}
+use Prim.Native.Nat.{ℕ, _+_, _-_, _≤_, _<_}
 use mathlib.Core.Path.{_≡_, refl, sym, ap, subst, _∙_}
-use mathlib.Core.Bool.{Bool, true, false, cond}
-use mathlib.Core.List.{List, [], _∷_, _++_, map}
+use mathlib.Core.List.{List, [], _++_}
 use native.Mathlib.Omega.{arith}
-use lib.ListN.{length, getD, set, take, length-map, length-set}
+use lib.ListN.{length, set, take, length-map, length-set}
 use lib.Seq.{sets, getD-set-same, length-sets}
-use Rattle.rules.specs.Lists.{Pair}
-use Rattle.rules.specs.Sizes.{mostEntries, mostOwners}
-use Rattle.rules.specs.Routes.{Plan, Route, Stage, Emptied, emptyRoute, routeOf, violationsOf, inForce, read, emptied, ownStage, putPlan}
+use Rattle.rules.specs.Sizes.{mostEntries}
+use Rattle.rules.specs.Routes.{Plan, Route, Stage, emptyRoute, routeOf, violationsOf, inForce, read, emptied, ownStage, putPlan}
 use Rattle.rules.specs.Reports.{push, seeds}
 use Rattle.rules.proofs.Stages.{Read, read-read, sum-at}
-use Rattle.rules.proofs.Puts.{Sound, Loaded, Along, emptied-along}
+use Rattle.rules.proofs.Puts.{emptied-along}
 use Rattle.rules.proofs.Steps.{staging, turning, amid, unwaited, put-entries, freedOf}
 use Rattle.routes.specs.declared.snap.Snap.{Snap}
 use Rattle.routes.specs.declared.exchange.Swap as swap
@@ -19,15 +17,15 @@ use Rattle.routes.specs.declared.wait.Sum as sum
 use Rattle.puts.specs.declared.put.Outcome.{Outcome}
 use Rattle.puts.specs.declared.put.Outcome.the-variants.{Done, NoRoom, Bad}
 use Rattle.routes.specs.Stops.{word, words}
-use Rattle.routes.specs.Store.{Model, Holds, routeAt}
+use Rattle.routes.specs.Store.{Model, Holds}
 use Rattle.routes.specs.Spans.{Lies}
-use Rattle.routes.specs.Freed.{Freed, freedBy}
-use Rattle.routes.specs.Snapped.{Snapped, Stated}
+use Rattle.routes.specs.Freed.{Freed}
+use Rattle.routes.specs.Snapped.{Snapped}
 use Rattle.routes.specs.Desks.{routesOf, Desked}
-use Rattle.puts.specs.Puts.{Queues, Gives, Turned, RouteTurn, Freely, AllEmptied, Crowded, PutWithin, PutDone, Entered, StopsPut}
+use Rattle.puts.specs.Puts.{Queues, Gives, Turned, RouteTurn, Freely, AllEmptied, Crowded, PutDone, Entered, StopsPut}
 use Rattle.puts.specs.Puts.{Asked, PutPromised, Within, SumWithin}
 use Rattle.routes.proofs.Placed.{stops-long}
-use Rattle.puts.proofs.Heading.{taken-first, tips-join, queues-join, queues-empty}
+use Rattle.puts.proofs.Heading.{taken-first, queues-join, queues-empty}
 use Rattle.puts.proofs.GivingUp.{waits-are}
 use Rattle.puts.proofs.Totals.{route-at, routes-long, freed-is, total}
 

@@ -1,23 +1,22 @@
 -- The routes' words after one stage of a put: an owner's route, violations and the jobs' counts change, and what is left is the next
 -- plan's. Assumes nothing.
-use Prim.Native.Nat.{ℕ, zero, suc, _+_, _-_, _≤_, _<_}
-use mathlib.Core.Path.{_≡_, refl, sym, ap, subst, _∙_}
-use mathlib.Core.Bool.{Bool, true, false, cond}
+use Prim.Native.Nat.{ℕ, _+_, _-_, _≤_, _<_}
+use mathlib.Core.Path.{_≡_, sym, ap, _∙_}
+use mathlib.Core.Bool.{Bool, cond}
 use mathlib.Core.Logic.{_⊎_, inl, inr}
-use mathlib.Core.List.{List, [], _∷_, map}
 use native.Mathlib.Omega.{arith}
 use lib.Dec.{eqb}
 use lib.ListN.{length, getD, set}
 use lib.Seq.{getD-set-same, getD-set-other}
 use borrow.Author.Tests.{eq-eqb, ne-eqb}
-use Rattle.rules.specs.Lists.{table, sumOf}
+use Rattle.rules.specs.Lists.{table}
 use Rattle.rules.specs.Sizes.{mostJobs, mostOwners}
 use Rattle.rules.specs.Routes.{Plan, Route, emptyRoute, routeOf, jobsOf, violationsOf}
 use Rattle.rules.specs.Scores.{assigned, timesIn}
 use Rattle.rules.proofs.Ranges.{same}
 use Rattle.rules.proofs.Tabled.{table-at, table-same, table-set, list-table}
 use Rattle.rules.proofs.Stages.{sum-set, sum-at}
-use Rattle.rules.proofs.Puts.{Sound, Loaded}
+use Rattle.rules.proofs.Puts.{Sound}
 use Rattle.rules.proofs.Steps.{turning}
 use Rattle.routes.specs.Store.{Model}
 use Rattle.routes.specs.Desks.{routesOf}

@@ -1,32 +1,27 @@
 -- The routes' words when an owner's route becomes another: its stops are counted no longer, the new ones are, and the row is replaced.
 -- Assumes nothing.
-use Prim.Native.Nat.{ℕ, zero, suc, _+_, _-_, _≤_, _<_}
+use Prim.Native.Nat.{ℕ, _+_, _-_, _≤_, _<_}
 use mathlib.Core.Path.{_≡_, refl, sym, ap, subst, _∙_}
 use mathlib.Core.Bool.{Bool, true, false}
 use mathlib.Core.Logic.{_⊎_, inl, inr}
-use mathlib.Core.List.{List, [], _∷_, map}
+use mathlib.Core.List.{List}
 use native.Mathlib.Omega.{arith}
-use lib.ListN.{length, getD, set, take, length-map}
-use Rattle.rules.specs.Lists.{table}
-use Rattle.rules.specs.Sizes.{mostJobs, mostOwners, mostEntries}
-use Rattle.rules.specs.Routes.{Plan, Route, Stop, emptyRoute, routeOf, jobsOf, violationsOf, inForce}
+use lib.ListN.{length, getD, set, length-map}
+use Rattle.rules.specs.Sizes.{mostJobs, mostEntries}
+use Rattle.rules.specs.Routes.{Plan, Route, Stop, routeOf, jobsOf}
 use Rattle.rules.specs.Scores.{assigned, timesIn}
 use Rattle.rules.proofs.Ranges.{lt-or-le}
 use Rattle.rules.proofs.Tabled.{table-length, table-at, table-past}
-use Rattle.rules.proofs.Stages.{Read}
-use Rattle.rules.proofs.Puts.{Sound, Loaded}
+use Rattle.rules.proofs.Puts.{Sound}
 use Rattle.rules.proofs.Steps.{turning}
-use Rattle.edges.specs.Rows.{flat}
 use Rattle.routes.specs.declared.rows.Done.{Done}
 use Rattle.routes.specs.declared.rows.Done.the-variants.{Fine, Bad}
-use Rattle.routes.specs.Stops.{words}
-use Rattle.routes.specs.Store.{Model, Holds, Wf, Low, routeAt, rows, row, putRoute, Puttable, RoutePut}
+use Rattle.routes.specs.Store.{Model, Holds, Low, routeAt, putRoute, Puttable, RoutePut}
 use Rattle.routes.specs.Counts.{Unassigned, Assigned, Countable, countRoute, recount, countedBy}
 use Rattle.routes.specs.Desks.{routesOf}
 use Rattle.puts.specs.Puts.{Gives, RoutesTurn}
-use Rattle.puts.proofs.Rerouted.{old-assigned, Reseated, reseated-is}
+use Rattle.puts.proofs.Rerouted.{old-assigned, reseated-is}
 use Rattle.puts.proofs.Totals.{route-at, set-force, times-few, assigned-few, low-times, low-jobs}
-use Rattle.routes.proofs.Desking.{past}
 
 module _ {p : Plan} {o : ℕ} {s : List ℕ} {k i v : ℕ} {x : Route} (S : Sound p) (G : Gives p o s k i v x) where
   abbrev m₀ : Model

@@ -1,32 +1,27 @@
 -- There is room for a stage's edges: at every moment of it each edge is held at most as often as in the next plan, whose edges number at
 -- most 4,095. Assumes nothing.
-use Prim.Native.Nat.{ℕ, zero, suc, _+_, _-_, _*_, _/_, _%_, _≤_, _<_}
+use Prim.Native.Nat.{ℕ, zero, suc, _+_, _-_, _*_, _≤_, _<_}
 use mathlib.Core.Path.{_≡_, refl, sym, ap, subst, _∙_}
-use mathlib.Core.Bool.{Bool, true, false, not, cond, _||_}
-use mathlib.Core.Logic.{_⊎_, inl, inr, ⊎-elim}
-use mathlib.Core.List.{List, [], _∷_, _++_, map}
+use mathlib.Core.Bool.{true, false, not}
+use mathlib.Core.Logic.{_⊎_, inl, inr}
+use mathlib.Core.List.{List, [], _∷_, map}
 use native.Mathlib.Omega.{arith}
-use lib.Dec.{eqb, ltb}
-use lib.ListN.{length, getD, set, length-map, length-append}
+use lib.ListN.{length, getD, length-map, length-append}
 use lib.Seq.{getD-set-same, getD-set-other}
-use borrow.Author.Tests.{eq-eqb, ne-eqb, eqb-true, ltb-true}
-use Rattle.rules.specs.Lists.{isZero, memb, Once, Pair, times, sumOf, tick}
+use borrow.Author.Tests.{ltb-true}
+use Rattle.rules.specs.Lists.{isZero, memb, Once, Pair, times}
 use Rattle.rules.specs.Routes.{Heads, outs, alter, appear}
 use Rattle.rules.specs.Scores.{timesIn}
 use Rattle.rules.proofs.Ranges.{Test, pass, fail, test, clash, same, lt-or-le}
-use Rattle.rules.proofs.Members.{or-true, or-false}
 use Rattle.rules.proofs.Stored.{appear-other}
 use Rattle.rules.proofs.Bounds.{rows-few, edgesOf, times-length}
 use Rattle.edges.specs.Rows.{flat}
-use Rattle.edges.specs.Edges.{Edge, Model, toOf, countOf, Room}
-use Rattle.routes.specs.Stops.{bit}
-use Rattle.routes.specs.Turns.{tail, head, isEdge, turnOne, turnAll, Ready, ReadyAll}
+use Rattle.edges.specs.Edges.{Edge, Model, toOf, Room}
+use Rattle.routes.specs.Turns.{tail, head, isEdge, turnOne, ReadyAll}
 use Rattle.routes.specs.Exchanged.{pairOf, headsIn, headsOf, countAt}
-use Rattle.routes.proofs.OneByOne.{Bridge}
-use Rattle.routes.proofs.Relisting.{Shown}
 use Rattle.routes.proofs.Bridged.{Fit, bridge, shown-heads}
 use Rattle.routes.proofs.Codes.{pair-of as pair-is}
-use Rattle.puts.proofs.Coding.{edge-is, times-code}
+use Rattle.puts.proofs.Coding.{edge-is}
 use Rattle.routes.proofs.Desking.{past}
 
 -- as many edges as the rows have heads

@@ -1,34 +1,31 @@
 -- A stage of a put may be carried out by numbers: the old route's edges are held, and there is room for the new ones. Assumes nothing.
-use Prim.Native.Nat.{ℕ, zero, suc, _+_, _-_, _*_, _/_, _%_, _≤_, _<_}
+use Prim.Native.Nat.{ℕ, zero, suc, _-_, _≤_, _<_}
 use mathlib.Core.Path.{_≡_, refl, sym, ap, subst, _∙_}
-use mathlib.Core.Bool.{Bool, true, false, not, cond}
+use mathlib.Core.Bool.{Bool, true, false, cond}
 use mathlib.Core.Logic.{_⊎_, inl, inr, ⊎-elim}
-use mathlib.Core.List.{List, [], _∷_, _++_, map}
+use mathlib.Core.List.{List, [], _∷_, map}
 use native.Mathlib.Omega.{arith}
-use lib.Dec.{eqb, ltb}
-use lib.ListN.{length, getD, set, length-map}
+use lib.Dec.{eqb}
+use lib.ListN.{length, getD, length-map}
 use lib.Seq.{getD-set-same, getD-set-other}
 use borrow.Author.Tests.{eqb-true, ltb-true, lt-ltb}
-use Rattle.rules.specs.Lists.{isZero, memb, Pair, times}
-use Rattle.rules.specs.Sizes.{mostJobs, mostFixed, mostEntries}
-use Rattle.rules.specs.Routes.{Plan, Route, Stop, Heads, outs, alter, vanish, linksOf, routeOf, holders}
+use Rattle.rules.specs.Lists.{memb, Pair, times}
+use Rattle.rules.specs.Routes.{Plan, Route, Stop, Heads, outs, alter, vanish, linksOf, routeOf}
 use Rattle.rules.specs.Scores.{timesIn}
 use Rattle.rules.proofs.Ranges.{Test, pass, fail, test, clash, same}
 use Rattle.rules.proofs.Members.{or-true}
 use Rattle.rules.proofs.Stored.{vanish-other}
-use Rattle.rules.proofs.Stages.{Inside, LowStops, Read, Kept}
-use Rattle.rules.proofs.Puts.{Sound, Loaded, live-inside}
+use Rattle.rules.proofs.Stages.{Inside, LowStops, Read}
+use Rattle.rules.proofs.Puts.{Sound, live-inside}
 use Rattle.rules.proofs.Steps.{turning}
 use Rattle.rules.proofs.Bounds.{holding, holders-times, holding-few}
-use Rattle.edges.specs.Edges.{Edge, Model, Wf, Holds, toOf, countOf}
+use Rattle.edges.specs.Edges.{Edge, Model, Wf, toOf}
 use Rattle.routes.specs.Stops.{bit, words}
 use Rattle.routes.specs.Desks.{edgesOf}
-use Rattle.routes.specs.Differs.{codes, Differs, struck}
-use Rattle.routes.specs.Turns.{tail, head, isEdge, turnOne, turnAll, ReadyAll}
+use Rattle.routes.specs.Differs.{codes, struck}
+use Rattle.routes.specs.Turns.{tail, head, isEdge, turnOne, turnAll}
 use Rattle.routes.specs.Exchanged.{pairOf, headsIn, headsOf, countAt}
 use Rattle.routes.specs.Swapped.{Swappable, Roomy}
-use Rattle.routes.proofs.OneByOne.{Bridge}
-use Rattle.routes.proofs.Relisting.{Shown}
 use Rattle.routes.proofs.Bridged.{Fit, fit, bridge, shown-heads}
 use Rattle.routes.proofs.Codes.{codes-links}
 use Rattle.puts.proofs.Coding.{times-code}

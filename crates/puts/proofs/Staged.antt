@@ -1,19 +1,15 @@
 -- The model after one stage of a put is that of the next plan. Assumes nothing.
 use Prim.Native.Nat.{ℕ, zero, suc, _+_, _-_, _≤_, _<_}
-use mathlib.Core.Path.{_≡_, refl, sym, ap, subst, _∙_}
-use mathlib.Core.Bool.{Bool, true, false, not, cond}
+use mathlib.Core.Path.{_≡_, refl, sym, ap, _∙_}
 use mathlib.Core.List.{List, [], _∷_, map}
 use native.Mathlib.Omega.{arith}
 use lib.ListN.{length, getD, set, length-map}
-use lib.Seq.{getD-set-same}
-use Rattle.rules.specs.Lists.{isZero, keep, Pair, times, sumOf, table}
+use Rattle.rules.specs.Lists.{isZero, keep, Pair, times}
 use Rattle.rules.specs.Sizes.{mostJobs}
 use Rattle.rules.specs.Routes.{Plan, Route, Heads, outs, relist, turned, holders, linksOf, routeOf, emptyRoute, exchange, staged}
-use Rattle.rules.proofs.Ranges.{same}
 use Rattle.rules.proofs.Tabled.{table-length}
-use Rattle.rules.proofs.Stored.{Tidy}
-use Rattle.rules.proofs.Stages.{Inside, inside-turned, links-inside, Kept, Read, sum-at, tells, tips}
-use Rattle.rules.proofs.Puts.{Sound, Loaded}
+use Rattle.rules.proofs.Stages.{Inside, inside-turned, links-inside, Read, sum-at, tells}
+use Rattle.rules.proofs.Puts.{Sound}
 use Rattle.rules.proofs.Steps.{staging, turning}
 use Rattle.edges.specs.Edges.{Edge, Model, toOf, countOf, hasEdge, Wf}
 use Rattle.routes.specs.Desks.{edgesOf, edgesFrom}

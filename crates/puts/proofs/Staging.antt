@@ -1,20 +1,18 @@
 -- One stage of a put, from the edges' words of a plan to those of the next: what is taken out and put in by numbers comes to the rules'
 -- stage. Assumes nothing.
-use Prim.Native.Nat.{ℕ, zero, suc, _+_, _-_, _*_, _/_, _%_, _≤_, _<_}
+use Prim.Native.Nat.{ℕ, _-_, _≤_, _<_}
 use mathlib.Core.Path.{_≡_, refl, sym, ap, subst, _∙_}
-use mathlib.Core.Bool.{Bool, true, false, not, cond}
-use mathlib.Core.Logic.{_⊎_, inl, inr, ⊎-elim}
-use mathlib.Core.List.{List, [], _∷_, _++_, map}
+use mathlib.Core.Bool.{Bool, true, false, cond}
+use mathlib.Core.Logic.{_⊎_, inl, inr}
+use mathlib.Core.List.{List, [], _∷_, map}
 use native.Mathlib.Omega.{arith}
-use lib.Dec.{eqb}
-use lib.ListN.{length, getD, set, length-set}
+use lib.ListN.{length, length-set}
 use lib.Seq.{getD-set-same, getD-set-other}
-use Rattle.rules.specs.Lists.{isZero, keep, Pair, times}
-use Rattle.rules.specs.Sizes.{mostJobs}
-use Rattle.rules.specs.Routes.{Plan, Route, Heads, outs, alter, vanish, appear, each, drops, adds, relist, turned, holders}
-use Rattle.rules.specs.Reports.{push, headOf}
+use Rattle.rules.specs.Lists.{keep, Pair}
+use Rattle.rules.specs.Routes.{Heads, outs, alter, vanish, appear, drops, adds, relist}
+use Rattle.rules.specs.Reports.{push}
 use Rattle.rules.proofs.Ranges.{same}
-use Rattle.rules.proofs.Stages.{Inside, inside-turned, tips}
+use Rattle.rules.proofs.Stages.{Inside, tips}
 use Rattle.rules.proofs.Steps.{push-once}
 use Rattle.routes.specs.Turns.{head}
 use Rattle.routes.specs.Exchanged.{pairOf, headsOnce}

@@ -1,29 +1,26 @@
 -- An owner's route becomes another: words that stand for a plan then stand for the next. Assumes nothing.
-use Prim.Native.Nat.{ℕ, zero, suc, _+_, _-_, _*_, _≤_, _<_}
-use mathlib.Core.Path.{_≡_, refl, sym, ap, subst, _∙_}
-use mathlib.Core.Bool.{Bool, true, false}
-use mathlib.Core.List.{List, [], _∷_, map}
+use Prim.Native.Nat.{ℕ, _+_, _-_, _*_, _≤_, _<_}
+use mathlib.Core.Path.{_≡_, sym, ap, subst, _∙_}
+use mathlib.Core.List.{List, map}
 use native.Mathlib.Omega.{arith}
-use lib.ListN.{length, getD, set, take, length-map}
-use lib.Seq.{sets, slice}
+use lib.ListN.{length, length-map}
+use lib.Seq.{slice}
 use Rattle.rules.specs.Lists.{Pair, times, keep, isZero}
-use Rattle.rules.specs.Sizes.{mostJobs, mostEntries}
-use Rattle.rules.specs.Routes.{Plan, Route, Stop, Stage, exchange, routeOf, linksOf, relist, turned}
-use Rattle.rules.specs.Scores.{timesIn}
+use Rattle.rules.specs.Sizes.{mostJobs}
+use Rattle.rules.specs.Routes.{Plan, Route, Stop, exchange, routeOf, linksOf, relist, turned}
 use Rattle.rules.proofs.Stages.{Read}
-use Rattle.rules.proofs.Puts.{Sound, Loaded}
+use Rattle.rules.proofs.Puts.{Sound}
 use Rattle.rules.proofs.Steps.{staging, turning, turning-sound}
 use Rattle.edges.specs.Edges.{countOf, Model as EdgeModel, Wf as EdgesWf, Holds as EdgesHold}
 use Rattle.routes.specs.declared.rows.Done as done
 use Rattle.routes.specs.declared.exchange.Swap.{Swap}
 use Rattle.routes.specs.declared.exchange.Swap.the-variants.{Done, Bad}
 use Rattle.routes.specs.Stops.{word, words}
-use Rattle.routes.specs.Store.{Model, Holds, routeAt}
+use Rattle.routes.specs.Store.{Model, Holds}
 use Rattle.routes.specs.Spans.{Lies}
 use Rattle.routes.specs.Differs.{codes, Linked}
-use Rattle.routes.specs.Turns.{tail, head, isEdge}
-use Rattle.routes.specs.Exchanged.{pairOf, countBy, headsOf, tailsOf, Exchanged}
-use Rattle.routes.specs.Swapped.{Swapped, Swappable, EdgesSwapped}
+use Rattle.routes.specs.Exchanged.{pairOf, countBy, headsOf, tailsOf}
+use Rattle.routes.specs.Swapped.{Swapped, EdgesSwapped}
 use Rattle.routes.specs.Desks.{edgesOf, routesOf, Desked}
 use Rattle.puts.specs.Puts.{Queues, Gives, RoutesTurn, EdgesTurn, Turned, RouteTurn, Within, Capped}
 use Rattle.routes.proofs.Codes.{pair-of as pair-is}

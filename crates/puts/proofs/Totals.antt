@@ -3,27 +3,27 @@ use Prim.Native.Nat.{ℕ, zero, suc, _+_, _≤_, _<_}
 use mathlib.Core.Path.{_≡_, refl, sym, ap, _∙_}
 use mathlib.Core.Bool.{Bool, true, false, cond}
 use mathlib.Core.Logic.{_⊎_, inl, inr, ⊎-elim}
-use mathlib.Core.List.{List, [], _∷_, _++_, map, append-assoc}
+use mathlib.Core.List.{List, [], _∷_, map, append-assoc}
 use native.Mathlib.Omega.{arith}
 use native.Mathlib.Nat.{not-suc-le-zero}
 use lib.Dec.{eqb}
 use lib.ListN.{length, getD, set, length-append, length-map, List·getD-append}
 use borrow.Author.Tests.{eqb-true, ne-eqb}
 use Rattle.rules.specs.Lists.{table, tick, memb, sumOf}
-use Rattle.rules.specs.Sizes.{mostJobs, mostOwners, mostEntries}
+use Rattle.rules.specs.Sizes.{mostOwners}
 use Rattle.rules.specs.Routes.{Plan, Route, Stop, emptyRoute, routeOf, jobsOf, inForce}
 use Rattle.rules.specs.Scores.{assigned, timesIn}
 use Rattle.rules.proofs.Ranges.{clash, lt-or-le}
 use Rattle.rules.proofs.Members.{or-true}
 use Rattle.rules.proofs.Tabled.{table-length, table-at, table-past}
 use Rattle.rules.proofs.Stages.{LowStops, sum-set}
-use Rattle.rules.proofs.Puts.{Sound, Loaded}
+use Rattle.rules.proofs.Puts.{Sound}
 use Rattle.rules.proofs.Steps.{freedOf}
-use Rattle.edges.specs.Rows.{offs, flat, pad}
+use Rattle.edges.specs.Rows.{offs, flat}
 use Rattle.edges.proofs.Rows.{offs-length, offs-last}
 use Rattle.routes.specs.Stops.{word}
-use Rattle.routes.specs.Store.{Model, Holds, Wf, routeAt, rows, row, invalids, front, encode}
-use Rattle.routes.specs.Freed.{givenUp, freedBy}
+use Rattle.routes.specs.Store.{Model, Holds, routeAt, rows, row, front, encode}
+use Rattle.routes.specs.Freed.{freedBy}
 use Rattle.routes.specs.Desks.{routesOf}
 use Rattle.routes.proofs.Desking.{past}
 

@@ -1,14 +1,14 @@
 -- What a put promises: of the words for any contents, and of the plan that they stand for. Assumes nothing.
 use Prim.Native.Nat.{ℕ, _+_, _≤_, _<_}
 use mathlib.Core.Path.{_≡_}
-use mathlib.Core.Bool.{Bool, cond}
+use mathlib.Core.Bool.{cond}
 use mathlib.Core.List.{List, [], _++_, map}
 use lib.Dec.{eqb}
 use lib.ListN.{length, getD, set, take}
 use lib.Seq.{sets}
 use Rattle.rules.specs.Lists.{Pair}
 use Rattle.rules.specs.Sizes.{mostEntries}
-use Rattle.rules.specs.Routes.{Plan, Route, Emptied, Stage, emptyRoute, routeOf}
+use Rattle.rules.specs.Routes.{Plan, Route, Emptied, emptyRoute, routeOf}
 use Rattle.rules.specs.Routes.{violationsOf, inForce, read, empty, emptied, ownStage, putPlan}
 use Rattle.rules.specs.Reports.{push, headOf, seeds}
 use Rattle.rules.proofs.Stages.{Read}

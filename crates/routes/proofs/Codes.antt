@@ -11,7 +11,7 @@ use Rattle.rules.specs.Scores.{timesIn}
 use Rattle.rules.specs.Routes.{Stop, links}
 use Rattle.rules.proofs.Ranges.{Test, pass, fail, test, and-true}
 use Rattle.rules.proofs.Stages.{LowStops, Apart}
-use Rattle.routes.specs.Stops.{bit, word, words}
+use Rattle.routes.specs.Stops.{bit, words}
 use Rattle.routes.specs.Differs.{codes}
 use Rattle.routes.specs.Turns.{tail, head, isEdge}
 use Rattle.routes.specs.Exchanged.{pairOf}

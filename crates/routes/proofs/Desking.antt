@@ -1,22 +1,20 @@
 -- The edges' words of a plan: what they say of heads, tails and counts, and that rows which say the same are those words. Assumes nothing.
-use Prim.Native.Nat.{ℕ, zero, suc, _+_, _-_, _≤_, _<_}
-use mathlib.Core.Path.{_≡_, refl, sym, ap, subst, _∙_}
+use Prim.Native.Nat.{ℕ, zero, suc, _-_, _≤_, _<_}
+use mathlib.Core.Path.{_≡_, refl, sym, ap, _∙_}
 use mathlib.Core.Bool.{Bool, true, false, not, cond}
-use mathlib.Core.Logic.{_⊎_, inl, inr, ⊎-elim}
-use mathlib.Core.List.{List, [], _∷_, _++_, map}
+use mathlib.Core.Logic.{_⊎_, inl, inr}
+use mathlib.Core.List.{List, [], _∷_, map}
 use native.Mathlib.Omega.{arith}
 use native.Mathlib.Nat.{not-suc-le-zero}
 use lib.Dec.{eqb}
 use lib.ListN.{length, getD}
 use borrow.Author.Tests.{eq-eqb, ne-eqb, eqb-true, eqb-false}
-use Rattle.rules.specs.Lists.{isZero, table, memb as isIn, Pair}
+use Rattle.rules.specs.Lists.{isZero, table, memb as isIn}
 use Rattle.rules.specs.Sizes.{mostJobs}
-use Rattle.rules.specs.Routes.{Plan, Heads, outs, holders, live}
-use Rattle.rules.proofs.Ranges.{Test, pass, fail, test, clash, lt-or-le, same}
-use Rattle.rules.proofs.Tabled.{table-length, table-at, table-past, table-same, list-table}
-use Rattle.rules.proofs.Stored.{Tidy}
-use Rattle.rules.proofs.Stages.{Kept}
-use Rattle.rules.proofs.Puts.{Sound, Loaded}
+use Rattle.rules.specs.Routes.{Plan, outs, holders}
+use Rattle.rules.proofs.Ranges.{Test, pass, fail, test, clash, lt-or-le}
+use Rattle.rules.proofs.Tabled.{table-at, table-past, table-same, list-table}
+use Rattle.rules.proofs.Puts.{Sound}
 use Rattle.edges.specs.Edges.{Edge, Model, toOf, timesIn, countOf, memb, Once, pick, Wf}
 use Rattle.routes.specs.Desks.{edgesFrom, edgesOf}
 

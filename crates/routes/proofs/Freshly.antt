@@ -1,15 +1,15 @@
 -- After a load every route is empty: the routes' words are zeros. Assumes nothing.
-use Prim.Native.Nat.{ℕ, zero, suc, _+_, _≤_, _<_}
+use Prim.Native.Nat.{ℕ, zero, suc}
 use mathlib.Core.Path.{_≡_, refl, sym, ap, subst, _∙_}
 use mathlib.Core.List.{List, [], _∷_}
 use native.Mathlib.Omega.{arith}
-use lib.ListN.{length, getD, replicate, length-replicate}
-use Rattle.rules.specs.Lists.{table, memb, sumOf}
+use lib.ListN.{getD, replicate}
+use Rattle.rules.specs.Lists.{table, memb}
 use Rattle.rules.specs.Sizes.{Base, mostJobs, mostOwners}
-use Rattle.rules.specs.Routes.{Plan, Route, emptyRoute, routeOf, fresh, jobsOf, violationsOf}
-use Rattle.rules.specs.Scores.{assigned, timesIn}
+use Rattle.rules.specs.Routes.{Route, emptyRoute, routeOf, fresh, jobsOf, violationsOf}
+use Rattle.rules.specs.Scores.{assigned}
 use Rattle.rules.proofs.Ranges.{clash}
-use Rattle.rules.proofs.Tabled.{table-same, table-length}
+use Rattle.rules.proofs.Tabled.{table-same}
 use Rattle.edges.specs.Rows.{offs, flat, pad}
 use Rattle.routes.specs.Store.{Model, encode, front, Wf, Holds}
 use Rattle.routes.specs.Desks.{routesOf}

@@ -1,13 +1,11 @@
 -- A retract: words that stand for a plan then stand for the plan in which the owner waits. Assumes nothing.
-use Prim.Native.Nat.{ℕ, _≤_, _<_}
+use Prim.Native.Nat.{ℕ, _<_}
 use mathlib.Core.Path.{_≡_}
 use mathlib.Core.Bool.{Bool, true, false, cond}
 use mathlib.Core.List.{List, [], _∷_, _++_}
 use native.Mathlib.Omega.{arith}
 use Rattle.rules.specs.Lists.{memb}
-use Rattle.rules.specs.Sizes.{mostOwners}
 use Rattle.rules.specs.Routes.{Plan, wait}
-use Rattle.rules.proofs.Puts.{Sound, Loaded}
 use Rattle.rules.proofs.History.{wait-sound}
 use Rattle.edges.specs.Edges.{Holds as EdgesHold}
 use Rattle.routes.specs.declared.rows.Done.{Done}

@@ -2,31 +2,28 @@
 -- Assumes nothing.
 use Prim.Native.Nat.{ℕ, zero, suc, _+_, _-_, _≤_, _<_}
 use mathlib.Core.Path.{_≡_, refl, sym, ap, subst, _∙_}
-use mathlib.Core.Bool.{Bool, true, false, not, cond, _||_, _&&_}
+use mathlib.Core.Bool.{Bool, true, false, not, _||_, _&&_}
 use mathlib.Core.Logic.{_⊎_, inl, inr, ⊎-elim}
-use mathlib.Core.List.{List, [], _∷_, _++_, map}
+use mathlib.Core.List.{List, [], _∷_, map}
 use native.Mathlib.Omega.{arith}
-use native.Mathlib.Nat.{not-suc-le-zero}
 use lib.Dec.{eqb}
 use lib.ListN.{length, getD, length-map, length-append}
-use borrow.Author.Tests.{eq-eqb, ne-eqb, eqb-true, eqb-false}
-use Rattle.rules.specs.Lists.{table, memb as isIn, Once, isZero, tick, count, sumBelow, sumOf, Pair, times}
+use borrow.Author.Tests.{eq-eqb, ne-eqb, eqb-true}
+use Rattle.rules.specs.Lists.{table, memb as isIn, Once, isZero, tick, count, sumBelow, sumOf, times}
 use Rattle.rules.specs.Sizes.{mostJobs, mostOwners, mostEntries, mostFixed}
-use Rattle.rules.specs.Routes.{Plan, Route, Stop, Heads, outs, live, holders, routeOf, emptyRoute, jobsOf, turned, inForce, violationsOf}
+use Rattle.rules.specs.Routes.{Plan, Route, Stop, Heads, outs, holders, routeOf, emptyRoute, jobsOf, inForce, violationsOf}
 use Rattle.rules.specs.Scores.{assigned}
-use Rattle.rules.proofs.Ranges.{Test, pass, fail, test, clash, same, lt-or-le, less-other, less-self, count-less, count-same, count-none}
-use Rattle.rules.proofs.Members.{or-true, or-false}
-use Rattle.rules.proofs.Tabled.{table-length, table-at, table-past, map-table, list-table}
-use Rattle.rules.proofs.Stored.{Tidy}
-use Rattle.rules.proofs.Stages.{Kept, Read, LowStops}
-use Rattle.rules.proofs.Puts.{Sound, Loaded, live-inside}
-use Rattle.rules.proofs.Bounds.{edgesOf as edgesIn, sum-places, sum-le, edges-few}
+use Rattle.rules.proofs.Ranges.{clash, same, lt-or-le, count-less, count-same, count-none}
+use Rattle.rules.proofs.Members.{or-true}
+use Rattle.rules.proofs.Tabled.{table-length, table-at, table-past, map-table}
+use Rattle.rules.proofs.Stages.{LowStops}
+use Rattle.rules.proofs.Puts.{Sound, live-inside}
+use Rattle.rules.proofs.Bounds.{edgesOf as edgesIn, sum-places, edges-few}
 use Rattle.edges.specs.Rows.{flat}
-use Rattle.edges.specs.Edges.{Edge, Model, Wf, encode as edgeWords, toOf, timesOf, timesIn, hasEdge, memb, AllPos, Once as EdgesOnce, pick}
+use Rattle.edges.specs.Edges.{Edge, Wf, encode as edgeWords, toOf, timesOf, hasEdge, memb, AllPos, Once as EdgesOnce}
 use Rattle.routes.specs.Stops.{word, words}
 use Rattle.routes.specs.Store.{row, rows, Low, routeAt, encode, Wf as RoutesWf}
 use Rattle.routes.specs.Desks.{edgesFrom, edgesOf, routesOf, Desked}
-use Rattle.routes.specs.Exchanged.{headsIn}
 use Rattle.routes.proofs.OneRow.{memb-is}
 use Rattle.routes.proofs.Desking.{out-is, pre-is, past}
 

@@ -1,6 +1,6 @@
 -- What a put is refused for before the routes are looked at, in the rules' order. Assumes nothing.
 use Prim.Native.Nat.{ℕ}
-use mathlib.Core.Bool.{Bool, cond}
+use mathlib.Core.Bool.{cond}
 use lib.Dec.{ltb, leb}
 use Rattle.rules.specs.Sizes.{mostEntries}
 use Rattle.routes.specs.declared.ask.Ask.{Ask}

@@ -1,12 +1,10 @@
 -- A plan's desk as the words of layers 1 and 2 hold it: the models of the edges and of the routes are functions of the plan. Assumes
 -- nothing.
-use Prim.Native.Nat.{ℕ, zero, suc}
-use mathlib.Core.Path.{_≡_}
-use mathlib.Core.List.{List, [], _∷_, map}
-use lib.ListN.{getD}
+use Prim.Native.Nat.{ℕ}
+use mathlib.Core.List.{List, map}
 use Rattle.rules.specs.Lists.{table}
-use Rattle.rules.specs.Sizes.{Base, mostJobs, mostOwners}
-use Rattle.rules.specs.Routes.{Plan, Route, emptyRoute, routeOf, outs, holders, violationsOf}
+use Rattle.rules.specs.Sizes.{mostJobs, mostOwners}
+use Rattle.rules.specs.Routes.{Plan, routeOf, outs, holders, violationsOf}
 use Rattle.rules.specs.Scores.{assigned}
 use Rattle.rules.proofs.Puts.{Sound}
 use Rattle.edges.specs.Edges.{Edge, Model as EdgeModel, Holds as EdgesHold}

@@ -1,7 +1,7 @@
 -- What taking out and putting in a route's edges comes to, in the rules' words. Assumes nothing.
 use Prim.Native.Nat.{ℕ, _+_, _-_}
 use mathlib.Core.Path.{_≡_}
-use mathlib.Core.Bool.{Bool, true}
+use mathlib.Core.Bool.{true}
 use mathlib.Core.List.{List, [], map}
 use Rattle.rules.specs.Lists.{Pair}
 use Rattle.rules.specs.Routes.{Heads, Stage, exchange}

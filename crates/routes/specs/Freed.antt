@@ -1,8 +1,8 @@
 -- What waiting owners give up in a put, and what is left when nobody waits. Assumes nothing.
 use Prim.Native.Nat.{ℕ, _≤_, _<_}
 use mathlib.Core.Path.{_≡_}
-use mathlib.Core.Bool.{Bool, cond}
-use mathlib.Core.List.{List, [], _∷_}
+use mathlib.Core.Bool.{cond}
+use mathlib.Core.List.{List, []}
 use lib.Dec.{eqb}
 use lib.ListN.{length, getD, replicate}
 use lib.Seq.{sets}

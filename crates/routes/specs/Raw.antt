@@ -1,7 +1,7 @@
 -- What the steps of `put_route` do to the words, whatever they are. Assumes nothing.
 use Prim.Native.Nat.{ℕ, _+_, _-_}
-use mathlib.Core.Bool.{Bool, true, false, cond}
-use mathlib.Core.List.{List, [], _∷_, _++_, map}
+use mathlib.Core.Bool.{cond}
+use mathlib.Core.List.{List, _++_, map}
 use lib.ListN.{length, take, replicate}
 use lib.Seq.{sets, slice}
 use lib.Dec.{ltb}

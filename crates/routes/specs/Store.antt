@@ -1,7 +1,7 @@
 -- The routes in force and the waiting owners, and the words that hold them. Assumes nothing.
 use Prim.Native.Nat.{ℕ, _≤_, _<_}
 use mathlib.Core.Path.{_≡_}
-use mathlib.Core.Bool.{Bool, true, cond}
+use mathlib.Core.Bool.{true, cond}
 use mathlib.Core.List.{List, [], _∷_, _++_, map}
 use lib.ListN.{length, getD, set, take}
 use Rattle.rules.specs.Lists.{memb, Once}

@@ -1,14 +1,14 @@
 -- What fits: at most 4,095 edges, at most 1,024 valid entries, a makespan of at most 2^49, and every part of a score. Assumes nothing.
-use Prim.Native.Nat.{ℕ, zero, suc, _+_, _-_, _*_, _≤_, _<_, _^_, max}
-use mathlib.Core.Path.{_≡_, refl, sym, ap, subst, _∙_}
-use mathlib.Core.Bool.{Bool, true, false, not, cond, _&&_, _||_}
-use mathlib.Core.Logic.{_⊎_, inl, inr, ⊎-elim}
+use Prim.Native.Nat.{ℕ, zero, suc, _+_, _-_, _*_, _≤_, _<_}
+use mathlib.Core.Path.{_≡_, refl, sym, ap, _∙_}
+use mathlib.Core.Bool.{Bool, true, false, not, cond, _&&_}
+use mathlib.Core.Logic.{_⊎_, inl, inr}
 use mathlib.Core.List.{List, [], _∷_, _++_, map}
 use native.Mathlib.Omega.{arith}
-use native.Mathlib.Nat.{not-suc-le-zero, mul-le-mul-right, mul-le-mul-left}
+use native.Mathlib.Nat.{not-suc-le-zero, mul-le-mul-right}
 use lib.Dec.{eqb, ltb}
 use lib.ListN.{length, getD, length-append}
-use borrow.Author.Tests.{eq-eqb, ne-eqb, eqb-true}
+use borrow.Author.Tests.{eq-eqb, ne-eqb}
 use Rattle.rules.specs.Graphs.{Graph, Leads, along, here}
 use Rattle.rules.specs.Lists.{Once, Pair, greatest, isZero, keep, memb, samePair, sumBelow, sumOf, tick, times}
 use Rattle.rules.specs.Routes.{Heads, Plan, Route, Stop, butLast, emptyRoute, holders, inForce, jobsOf, lastFirst, links, linksOf}

@@ -1,6 +1,6 @@
 -- The shown cycle: from the lowest job that lies on a cycle, a shortest cycle through it, of those the lowest in dictionary order. Assumes nothing.
 use Prim.Native.Nat.{ℕ, zero, suc, _+_, _≤_, _<_}
-use mathlib.Core.Path.{_≡_, refl, sym, ap, subst, _∙_}
+use mathlib.Core.Path.{_≡_, refl, sym, ap, _∙_}
 use mathlib.Core.Bool.{Bool, true, false, not, _&&_, _||_}
 use mathlib.Core.Option.{Option, none, some}
 use mathlib.Core.Logic.{_⊎_, inl, inr, ⊎-elim}
@@ -9,7 +9,7 @@ use native.Mathlib.Omega.{arith}
 use native.Mathlib.Nat.{not-suc-le-zero}
 use lib.Dec.{eqb}
 use lib.ListN.{length}
-use borrow.Author.Tests.{eq-eqb, ne-eqb, eqb-true, not-true, not-false}
+use borrow.Author.Tests.{eq-eqb, ne-eqb, eqb-true, not-true}
 use Rattle.rules.specs.Graphs.{Cycle, Lex, LowestCycle, Trail, end, go, lex-eq, lex-lt, lex-nil}
 use Rattle.rules.specs.Lists.{Once, less, memb, nobody}
 use Rattle.rules.specs.Shown.{closes, cycle, cycleAt, reach, trail}

@@ -1,11 +1,10 @@
 -- Demand 3 and the limits, of the plan after any history of calls: the last theorem here is what the others are for. Assumes nothing.
-use Prim.Native.Nat.{ℕ, zero, suc, _+_, _-_, _*_, _≤_, _<_}
-use mathlib.Core.Path.{_≡_, refl, sym, ap, subst, _∙_}
-use mathlib.Core.Bool.{Bool, true, false, cond}
-use mathlib.Core.Option.{Option, none, some}
+use Prim.Native.Nat.{ℕ, _+_, _-_, _*_, _≤_, _<_}
+use mathlib.Core.Path.{_≡_, refl, subst}
+use mathlib.Core.Bool.{true, false}
+use mathlib.Core.Option.{none, some}
 use mathlib.Core.Logic.{_⊎_, inl, inr, _↔_}
-use mathlib.Core.List.{List, []}
-use native.Mathlib.Omega.{arith}
+use mathlib.Core.List.{List}
 use Rattle.rules.specs.Calls.{Call, run}
 use Rattle.rules.specs.Graphs.{GreatestSum, LineUp, LowestCycle, LowestLineUp}
 use Rattle.rules.specs.Routes.{Plan, inForce, isHeld, live}

@@ -1,9 +1,9 @@
 -- Line-ups and cycles of a graph: jobs 0 to n - 1, and a test `E u v`, "an edge leads from u to v".
 -- `order` takes, again and again, the lowest job none of whose predecessors remain. It answers the line-up that is lowest in dictionary order,
 -- or none; and then there is a cycle. Assumes nothing.
-use Prim.Native.Nat.{ℕ, zero, suc, _+_, _≤_, _<_, max}
-use mathlib.Core.Path.{_≡_, refl, sym, ap, subst, _∙_}
-use mathlib.Core.Bool.{Bool, true, false, not, _&&_, cond}
+use Prim.Native.Nat.{ℕ, zero, suc, _+_, _≤_, _<_}
+use mathlib.Core.Path.{_≡_, refl, sym, ap, _∙_}
+use mathlib.Core.Bool.{Bool, true, false, _&&_, cond}
 use mathlib.Core.Option.{Option, none, some, Option·map}
 use mathlib.Core.Logic.{_⊎_, inl, inr, ⊎-elim}
 use mathlib.Core.List.{List, [], _∷_, _++_, append-assoc}

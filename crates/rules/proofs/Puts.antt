@@ -1,15 +1,14 @@
 -- Each call keeps a plan sound: the stored lists are those of the counts, the routes are such as can be put. So a put's walk starts where it
 -- has to: the edges of the new plan differ only at heads that it queues. Assumes nothing.
-use Prim.Native.Nat.{ℕ, zero, suc, _+_, _≤_, _<_}
-use mathlib.Core.Path.{_≡_, refl, sym, ap, subst, _∙_}
-use mathlib.Core.Bool.{Bool, true, false, not, cond, _&&_, _||_}
-use mathlib.Core.Option.{Option, none, some}
-use mathlib.Core.Logic.{_⊎_, inl, inr, ⊎-elim}
+use Prim.Native.Nat.{ℕ, _+_, _≤_, _<_}
+use mathlib.Core.Path.{_≡_, refl, sym, _∙_}
+use mathlib.Core.Bool.{Bool, true, false, cond, _||_}
+use mathlib.Core.Logic.{_⊎_, ⊎-elim}
 use mathlib.Core.List.{List, [], _∷_, _++_, map}
 use native.Mathlib.Omega.{arith}
-use lib.Dec.{eqb, ltb, leb}
-use lib.ListN.{length, getD, set, length-set}
-use borrow.Author.Tests.{eq-eqb, ne-eqb, eqb-true}
+use lib.Dec.{eqb}
+use lib.ListN.{length, length-set}
+use borrow.Author.Tests.{eq-eqb}
 use Rattle.rules.specs.Lists.{Once, Pair, isEmpty, memb}
 use Rattle.rules.specs.Reports.{seeds}
 use Rattle.rules.specs.Routes.{Emptied, Heads, Plan, emptied, empty, emptyRoute, exchange, holders, inForce, isHeld, live, outs}

@@ -1,11 +1,10 @@
 -- "Refresh report": the walk of a put ends, leaves the starts of the new plan, and its visits never exceed n(n+1)/2. Assumes nothing.
-use Prim.Native.Nat.{ℕ, zero, suc, _+_, _*_, _≤_, _<_}
-use mathlib.Core.Path.{_≡_, refl, sym, ap, _∙_}
+use Prim.Native.Nat.{ℕ, _≤_, _<_}
+use mathlib.Core.Path.{_≡_, refl}
 use mathlib.Core.Bool.{Bool, true, false, cond}
-use mathlib.Core.List.{List, [], _∷_}
+use mathlib.Core.List.{List}
 use native.Mathlib.Omega.{arith}
 use lib.ListN.{length}
-use Rattle.rules.specs.declared.Report.{Report}
 use Rattle.rules.specs.declared.Report.the-variants.{Skipped, Full, CycleFound, Incremental}
 use Rattle.rules.specs.Lists.{isEmpty}
 use Rattle.rules.specs.Reports.{putReport, putWalk, seeds, tri}

@@ -14,7 +14,7 @@ use lib.ListN.{length, getD, drop, length-drop}
 use lib.Seq.{getD-drop, drop-drop}
 use borrow.Author.Tests.{ltb-true, ltb-false, lt-ltb, le-ltb}
 use Rattle.rules.specs.declared.Block.{Block}
-use Rattle.rules.specs.Blocks.{arc, blocks, blocksOf, blocksOver, critical, ends, scan}
+use Rattle.rules.specs.Blocks.{arc, blocks, blocksOf, blocksOver, critical, ends, noBlock, scan}
 use Rattle.rules.specs.Graphs.{Graph}
 use Rattle.rules.specs.Lists.{first}
 use Rattle.rules.specs.Routes.{Plan, jobsOf, live, routeOf}
@@ -79,10 +79,6 @@ arc-here arcs l now h p q = rw (lt-ltb (suc now) (length l) h, p, q)
 
 arc-last : (arcs : Graph) (l : List ℕ) (now : ℕ) → length l ≤ suc now → arcAt arcs l now ≡ false
 arc-last arcs l now h = rw (le-ltb (suc now) (length l) h)
-
--- what stands beyond the end of a list of blocks
-abbrev pub noBlock : Block
-noBlock = record { owner = 0; first = 0; last = 0; length = 0 }
 
 -- place x lies in one of the blocks
 pub record Covered (bs : List Block) (x : ℕ) : Type 0 where

@@ -2,9 +2,9 @@
 -- On a graph without cycles `start n E f d n` is the one solution of the equations "start(v) is the greater of v's floor and the greatest
 -- start(u) + d(u) of v's predecessors u". Assumes nothing.
 use Prim.Native.Nat.{ℕ, zero, suc, _+_, _≤_, _<_, _*_, max}
-use mathlib.Core.Path.{_≡_, refl, sym, ap, subst, _∙_}
-use mathlib.Core.Bool.{Bool, true, false}
-use mathlib.Core.Logic.{_⊎_, inl, inr, ⊎-elim}
+use mathlib.Core.Path.{_≡_, sym, ap, _∙_}
+use mathlib.Core.Bool.{true}
+use mathlib.Core.Logic.{_⊎_, inl, inr}
 use native.Mathlib.Omega.{arith}
 use native.Mathlib.Nat.{not-suc-le-zero, mul-le-mul-right}
 use Rattle.rules.specs.Graphs.{Graph, GreatestSum, Leads, along, here}

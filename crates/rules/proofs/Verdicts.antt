@@ -1,12 +1,11 @@
 -- Demand 3 on a graph: it is called cyclic exactly if no line-up of all jobs leads every edge forward, and exactly if there is a cycle;
 -- what is shown is then the lowest cycle, and otherwise the lowest line-up. Assumes nothing.
-use Prim.Native.Nat.{ℕ, zero, suc, _<_}
-use mathlib.Core.Path.{_≡_, refl, sym, ap, _∙_}
-use mathlib.Core.Bool.{Bool, true, false, not}
+use Prim.Native.Nat.{ℕ}
+use mathlib.Core.Path.{_≡_, refl, ap}
+use mathlib.Core.Bool.{false}
 use mathlib.Core.Option.{Option, none, some}
 use mathlib.Core.Logic.{_↔_}
 use mathlib.Core.List.{List}
-use native.Mathlib.Omega.{arith}
 use Rattle.rules.specs.Graphs.{Cycle, Graph, LineUp, LowestCycle, LowestLineUp}
 use Rattle.rules.specs.Lists.{isSome}
 use Rattle.rules.specs.Shown.{cycle, order}

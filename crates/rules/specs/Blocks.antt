@@ -1,6 +1,6 @@
 -- "Critical blocks". "The blocks are written as records into a lent list": a record is the type `Block`.
 use Prim.Native.Nat.{ℕ, zero, suc, _+_, _-_}
-use mathlib.Core.Bool.{Bool, true, false, not, cond, _&&_, _||_}
+use mathlib.Core.Bool.{Bool, cond, _&&_, _||_}
 use mathlib.Core.List.{List, [], _∷_, _++_}
 use lib.Dec.{eqb, ltb}
 use lib.ListN.{length}
@@ -10,6 +10,10 @@ use Rattle.rules.specs.Graphs.{Graph}
 use Rattle.rules.specs.Sizes.{duration}
 use Rattle.rules.specs.Routes.{Plan, live, jobsOf, routeOf}
 use Rattle.rules.specs.Scores.{starts, finish, makespan, isCyclic}
+
+-- what stands beyond the end of a list of blocks
+abbrev pub noBlock : Block
+noBlock = record { owner = 0; first = 0; last = 0; length = 0 }
 
 -- the latest start, by paths of at most k edges, where m is the makespan
 abbrev pub latestBy : ℕ → Graph → (ℕ → ℕ) → ℕ → ℕ → ℕ → ℕ

@@ -1,6 +1,6 @@
 -- What a line-up is, a cycle, a path with its duration sum, "lowest in dictionary order" and "shortest".
 -- A graph is jobs 0 to n - 1 and a test `E u v`: an edge leads from u to v.
-use Prim.Native.Nat.{ℕ, zero, suc, _+_, _≤_, _<_}
+use Prim.Native.Nat.{ℕ, suc, _+_, _≤_, _<_}
 use mathlib.Core.Path.{_≡_}
 use mathlib.Core.Bool.{Bool, true}
 use mathlib.Core.List.{List, [], _∷_}

@@ -1,11 +1,11 @@
 -- "Moves": the four route moves and both move checks. "A move answers the new route and both verdicts; the store stays." "The probe looks
 -- through a view of the live lists and copies none." (That is the code's; here `live` is the lists.)
-use Prim.Native.Nat.{ℕ, zero, suc, _+_, _-_}
-use mathlib.Core.Bool.{Bool, true, false, not, cond, _&&_, _||_}
+use Prim.Native.Nat.{ℕ, suc, _+_, _-_}
+use mathlib.Core.Bool.{Bool, not, cond, _&&_, _||_}
 use mathlib.Core.List.{List, [], _∷_, _++_, map}
 use lib.Dec.{eqb, ltb, leb}
 use lib.ListN.{length, getD, take, drop}
-use Rattle.rules.specs.Lists.{isZero, isSome, memb, distinct, allBelow, nobody, Pair, times}
+use Rattle.rules.specs.Lists.{isZero, isSome, distinct, allBelow, nobody, Pair, times}
 use Rattle.rules.specs.Graphs.{Graph}
 use Rattle.rules.specs.Sizes.{validFixed}
 use Rattle.rules.specs.Routes.{Plan, live, jobsOf, routeOf}

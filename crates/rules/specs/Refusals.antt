@@ -1,6 +1,6 @@
 -- "Refusal numbers": each refusal's number, what it asks, and the order of the checks.
 use Prim.Native.Nat.{ℕ}
-use mathlib.Core.Bool.{Bool, true, false, not, cond}
+use mathlib.Core.Bool.{Bool, true, not, cond}
 use mathlib.Core.Option.{Option, none, some}
 use mathlib.Core.List.{List, [], _∷_}
 use lib.Dec.{ltb, leb}
@@ -10,7 +10,7 @@ use Rattle.rules.specs.declared.Refusal.the-variants.{NotLoaded, BadSize
 use Rattle.rules.specs.declared.Refusal.the-variants.{NoRoom, BadPositions, ShortStore, ShortAnswer, BrokenRoute, BadStore}
 use Rattle.rules.specs.Lists.{isZero}
 use Rattle.rules.specs.Sizes.{Loading, mostEntries, breaksSize, hasLong, badFrom}
-use Rattle.rules.specs.Routes.{Plan, State, Route, routeOf, putPlan, inForce}
+use Rattle.rules.specs.Routes.{Plan, State, routeOf, putPlan, inForce}
 use Rattle.rules.specs.Moves.{Move, goodPositions}
 
 abbrev pub numberOf : Refusal → ℕ

@@ -1,6 +1,6 @@
 -- "Refresh report": what a put reports, and the walk whose steps are its visits. "Seed order and report are ours, not compared with the Rust."
 use Prim.Native.Nat.{ℕ, zero, suc, _+_}
-use mathlib.Core.Bool.{Bool, true, false, cond}
+use mathlib.Core.Bool.{cond}
 use mathlib.Core.List.{List, [], _∷_, _++_, map}
 use lib.Dec.{eqb}
 use Rattle.rules.specs.declared.Report.{Report}

@@ -2,7 +2,7 @@
 ghost use mathlib.Core.Path.{_≡_};
 ghost use Prim.Native.Nat.{_≤_};
 ghost use lib.Dec.{ltb};
-ghost use Rattle.rules.specs.Sizes.{Lent, isShort, fitsSizes, isLong};
+ghost use Rattle.rules.specs.Sizes.{isShort, fitsSizes, isLong};
 ghost use Rattle.rules.specs.Refusals.{numberOf};
 ghost use Rattle.rules.specs.Scores.{scoreOf, minusOf, matchesOf, Within, limit};
 ghost use Rattle.rules.specs.Reports.{visitsOf};

@@ -5,7 +5,7 @@ use edges::spans::wide;
 use kernels::rows::Tail;
 ghost use mathlib.Core.Path.{_≡_};
 ghost use Prim.Native.Nat.{_<_, _≤_};
-ghost use lib.ListN.{length, getD};
+ghost use lib.ListN.{length};
 ghost use Rattle.graphs.specs.Graph.{part};
 ghost use Rattle.graphs.specs.Waves.{nearer, lowerOf};
 ghost use Rattle.searches.specs.Cycles.{Meet, Meets, Behind, Waves, Spreads, Nears, Nearest, Through};

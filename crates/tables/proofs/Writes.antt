@@ -1,9 +1,9 @@
 -- Laws of words written one after the other: `sets a k l` is a with the words of l from place k on. Assumes nothing.
-use Prim.Native.Nat.{ℕ, zero, suc, _+_, _-_, _≤_, _<_}
+use Prim.Native.Nat.{ℕ, suc, _+_, _-_, _≤_, _<_}
 use native.Mathlib.Numerals.{add-one}
 use native.Mathlib.Omega.{arith}
-use mathlib.Core.Path.{_≡_, refl, sym, ap, _∙_}
-use mathlib.Core.List.{List, [], _∷_, map}
+use mathlib.Core.Path.{_≡_, sym, ap, _∙_}
+use mathlib.Core.List.{List, map}
 use lib.ListN.{length, getD, set, drop, take, replicate}
 use lib.Seq.{sets, slice, slice-cons, slice-empty, take-set-lt, drop-set-lt}
 

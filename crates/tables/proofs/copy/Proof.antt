@@ -1,8 +1,8 @@
 -- A sweep up: what is still to copy, written behind what is, gives the whole. Assumes nothing.
-use Prim.Native.Nat.{ℕ, suc, _+_, _-_, _≤_, _<_}
+use Prim.Native.Nat.{_+_, _-_, _≤_}
 use native.Mathlib.Omega.{arith}
-use mathlib.Core.Path.{_≡_, refl, sym, ap, _∙_}
-use lib.ListN.{length, getD, set, drop, take}
+use mathlib.Core.Path.{_≡_, refl}
+use lib.ListN.{length}
 use native.Mathlib.Nat.{add-zero}
 use lib.ListN.{length-set}
 use lib.Seq.{sets, slice}

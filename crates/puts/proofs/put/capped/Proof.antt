@@ -1,5 +1,4 @@
 -- `routes::put::capped` meets its contract (`Swaps`). Assumes nothing.
-use native.Mathlib.Omega.{arith}
 use Rattle.puts.proofs.Swaps.{capped-bad, capped-far, capped-long, capped-in}
 use borrow.Author.Needs.{needs}
 use Rattle.puts.proofs.put.capped.Statement.{statement}

@@ -1,5 +1,4 @@
 -- `routes::put::empty_one` meets its contract: the waiting owner's route becomes an empty one (`GivingUp`). Assumes nothing.
-use native.Mathlib.Omega.{arith}
 use Rattle.puts.proofs.GivingUp.{one-far, one-own, one-bad, one-done}
 use borrow.Author.Needs.{needs}
 use Rattle.puts.proofs.put.empty_one.Statement.{statement}
