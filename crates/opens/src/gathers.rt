@@ -6,7 +6,6 @@ use crate::steps::step;
 use text::ends::End;
 use text::ends::line_end;
 ghost use Prim.Native.Nat.{_≤_};
-ghost use mathlib.Core.Path.{_≡_};
 ghost use lib.ListN.{length};
 ghost use Rattle.opens.specs.Steps.{Gathers};
 

@@ -1,0 +1,112 @@
+// `crit`: the critical blocks of every owner. The lent list of records makes `find_all` the one function that is walked by hand, so it only calls.
+use blocks::blocks::Blocked;
+use blocks::blocks::blocks;
+use rules::Block;
+use says::answers::block;
+use says::answers::least;
+use says::answers::no;
+use says::answers::told;
+ghost use Prim.Native.Nat.{_+_, _≤_, min};
+ghost use mathlib.Core.Path.{_≡_};
+ghost use lib.ListN.{length, take};
+ghost use Rattle.rules.specs.Calls.{to-blocks};
+ghost use Rattle.stores.specs.Promise.{slices};
+ghost use Rattle.says.specs.Prints.{Prints, blockLines};
+ghost use Rattle.serves.specs.Serves.{Answers, upTo};
+ghost use Rattle.serves.specs.Parts.{Finds};
+
+// What is answered, and the list that holds the blocks in front.
+pub struct Found {
+    pub answer: Blocked,
+    pub list: [Block; 1024],
+}
+
+fn broad(x: u32) -> usize
+    ensures { λ r. ⌜ r ≡ x ⌝ }
+{
+    x as usize
+}
+
+// The first n owners, rising, and no more than a plan can have. How many.
+fn rising(owners: &mut [u32], n: u32) -> usize
+    requires { ⌜ length (now owners) ≡ 64 ⌝ }
+    ensures { λ r. ⌜ (r ≡ min n 64) × (take r (now (owners .exit)) ≡ upTo r) ⌝ }
+{
+    let all = least(broad(n), 64);
+    let mut i: usize = 0;
+    let mut x: u32 = 0;
+    while i < all {
+        owners[i] = x;
+        i += 1;
+        x += 1;
+    }
+    all
+}
+
+fn find_all(
+    base: &[u32],
+    spans: &[u64],
+    edges: &[u16],
+    routes: &[u16],
+    times: &[u64],
+    owners: &[u32],
+) -> Found
+    ensures { λ r. ⌜ Finds (now (owners .entry))
+        (slices (now (base .entry)) (now (spans .entry)) (now (edges .entry)) (now (routes .entry)) (now (times .entry))) r ⌝ }
+{
+    let mut list = [Block {
+        owner: 0,
+        first: 0,
+        last: 0,
+        length: 0,
+    }; 1024];
+    let answer = blocks(base, spans, edges, routes, times, owners, &mut list);
+    Found {
+        answer: answer,
+        list: list,
+    }
+}
+
+// The line of each block.
+fn block_lines(out: &mut [u8], at: usize, list: [Block; 1024], k: usize) -> usize
+    requires { ⌜ (at + 92160 ≤ length (now out)) × (k ≤ 1024) × (length list ≡ 1024) ⌝ }
+    ensures { λ r. ⌜ Prints (now (out .entry)) at (blockLines (take k list)) 92160 r (now (out .exit)) ⌝ }
+{
+    let mut p = at;
+    let mut i: usize = 0;
+    while i < k {
+        let b = list[i];
+        p = block(out, p, b);
+        i += 1;
+    }
+    p
+}
+
+pub fn crit(
+    base: &[u32],
+    spans: &[u64],
+    edges: &[u16],
+    routes: &[u16],
+    times: &[u64],
+    owners: u32,
+    out: &mut [u8],
+) -> usize
+    requires { ⌜ 98304 ≤ length (now out) ⌝ }
+    ensures { λ r. ⌜ Answers (to-blocks (upTo (min owners 64)) 1024)
+        (slices (now (base .entry)) (now (spans .entry)) (now (edges .entry)) (now (routes .entry)) (now (times .entry)))
+        (slices (now (base .entry)) (now (spans .entry)) (now (edges .entry)) (now (routes .entry)) (now (times .entry)))
+        (now (out .entry)) r (now (out .exit)) ⌝ }
+{
+    let mut all = [0u32; 64];
+    let n = rising(&mut all, owners);
+    let f = find_all(base, spans, edges, routes, times, &all[..n]);
+    let answer = f.answer;
+    let list = f.list;
+    match answer {
+        Blocked::Refused(r) => no(out, 0, r),
+        Blocked::Are(k) => {
+            let p = told(out, 0, b"blocks", k as u64);
+            block_lines(out, p, list, least(k, 1024))
+        }
+    }
+}
