@@ -3,6 +3,7 @@
 pub mod cases;
 pub mod desk;
 pub mod histories;
+pub mod inputs;
 pub mod lines;
 pub mod marked;
 pub mod model;

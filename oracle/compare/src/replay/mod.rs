@@ -19,7 +19,7 @@ pub use parse::{parse_call, CallLine};
 use recorder::Recorder;
 
 /// Where the list is stored, from the folder of this workspace.
-pub const FILE: &str = "replay/replay.txt";
+pub const FILE: &str = "../crates/replay/stdin";
 
 /// The whole list, header first; the same on every run.
 pub fn list() -> String {

@@ -4,7 +4,7 @@ use compare::replay::{answer_line, list, parse_call};
 use rules::Store;
 use std::collections::BTreeMap;
 
-const STORED: &str = include_str!("../../../replay/replay.txt");
+const STORED: &str = include_str!("../../../../crates/replay/stdin");
 const MOST_BYTES: usize = 1_500_000;
 
 /// Plans and calls with their answers, as a replaying side meets them.

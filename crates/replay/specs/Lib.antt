@@ -1,0 +1,2 @@
+-- What the readers promise. Assumes nothing.
+pub mod Places
