@@ -1,4 +1,4 @@
-// Numbers in a list with a count. What doesn't fit is left out, and then differs.
+// Numbers in a list with a count. What doesn't fit is left out.
 use text::fields::Field;
 ghost use Prim.Native.Nat.{ℕ, _+_, _≤_, min};
 ghost use mathlib.Core.Path.{_≡_};
@@ -17,7 +17,7 @@ pub fn small(x: i64) -> u32 {
     if x < 4294967296 { x as u32 } else { 4294967295 }
 }
 
-// A number that was too wide for a signed one is the largest here too.
+// A duration; a number of 2^63 or more was read as -1, and is the largest.
 pub fn large(x: i64) -> u64 {
     if x < 0 {
         18446744073709551615
@@ -30,6 +30,7 @@ pub fn count(x: i64) -> usize {
     if x < 0 { 0 } else { x as usize }
 }
 
+// A number as the lists hold it; one that is too wide is -1.
 pub fn signed(x: u64) -> i64 {
     if x < 9223372036854775808 {
         x as i64
