@@ -1,4 +1,4 @@
--- A run of turns prints what the rules say of a session: each line is answered in the state that those before it left, and the store stands
+-- A run of turns prints what the rules say of its lines: each is answered in the state that those before it left, and the store stands
 -- for it. Assumes nothing.
 use Prim.Native.Nat.{ℕ, suc, _≤_, _<_, min}
 use native.Mathlib.Omega.{arith}
