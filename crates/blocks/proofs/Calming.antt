@@ -15,26 +15,27 @@ use Rattle.rules.specs.Graphs.{Graph, LineUp}
 use Rattle.rules.specs.Routes.{Plan, Route, Stop, emptyRoute, holders, links, linksOf, live, routeOf}
 use Rattle.rules.specs.Scores.{finish, starts}
 use Rattle.rules.specs.Blocks.{arc, blocks, critical, latest, latestBy}
+use Rattle.rules.specs.Sound.{Sound, LowStops}
+use Rattle.rules.specs.Solved.{Solves}
 use Rattle.rules.proofs.Bounds.{finish-few}
 use Rattle.rules.proofs.Latest.{finish-makespan}
 use Rattle.rules.proofs.Plans.{starts-solve, whole-of}
-use Rattle.rules.proofs.Puts.{Sound, live-held}
+use Rattle.rules.proofs.Puts.{live-held}
 use Rattle.rules.proofs.Runs.{blocks-calm}
-use Rattle.rules.proofs.Stages.{LowStops, sum-at}
+use Rattle.rules.proofs.Stages.{sum-at}
 use Rattle.rules.proofs.Tabled.{table-at}
-use Rattle.rules.proofs.Starts.{Solves}
 use Rattle.graphs.specs.Graph.{at, zeros, live as liveIn, Below}
 use Rattle.routes.specs.Desks.{edgesOf, routesOf}
-use Rattle.routes.specs.Stops.{bit, words}
-use Rattle.routes.proofs.Codes.{half}
+use Rattle.exchanges.specs.Stops.{bit, words}
+use Rattle.exchanges.proofs.Codes.{half}
 use Rattle.routes.proofs.Placed.{forward, stops-words}
 use Rattle.times.proofs.Graphing.{below, live-fun, span-fun, start-fun}
 use Rattle.stores.proofs.Tabled.{part-slice}
 use Rattle.blocks.specs.Latests.{Timed, latestOf}
-use Rattle.blocks.specs.Arcs.{Stops, Told, jobAt, jobsIn}
-use Rattle.blocks.specs.Overs.{Rows, ahead, rowOf}
+use Rattle.runs.specs.Arcs.{Stops, Told, jobAt, jobsIn}
+use Rattle.runs.specs.Overs.{Rows, ahead, rowOf}
 use Rattle.blocks.specs.Searches.{Calm}
-use Rattle.blocks.proofs.Stepping.{ahead-blocks}
+use Rattle.runs.proofs.Stepping.{ahead-blocks}
 
 -- ── the words of a route's stops ──
 

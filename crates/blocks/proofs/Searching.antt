@@ -26,23 +26,23 @@ use Rattle.rules.proofs.Runs.{blocks-cyclic}
 use Rattle.routes.specs.Desks.{edgesOf}
 use Rattle.stores.specs.declared.header.Header.{Header}
 use Rattle.stores.specs.declared.header.Header.the-variants.{Is as Headed, Refused as Unopened}
-use Rattle.stores.specs.Headers.{openOf}
+use Rattle.stores.specs.Headers.{openOf, countsOf}
 use Rattle.stores.specs.Promise.{Slices, lentOf, callOf, Held, StandsFor}
-use Rattle.stores.proofs.Openings.{countsOf, open-is, open-none, open-short, open-some}
+use Rattle.stores.proofs.Openings.{open-is, open-none, open-short, open-some}
 use Rattle.stores.proofs.Promises.{decided-read, decided-refused, refusal-long, refusal-short}
 use Rattle.stores.proofs.Readings.{times-starts}
 use Rattle.stores.proofs.Scores.{timed as times-told}
 use Rattle.blocks.specs.Latests.{Criticals}
-use Rattle.blocks.specs.Arcs.{Told}
-use Rattle.blocks.specs.Overs.{Counted, Stepped, ahead}
+use Rattle.runs.specs.Arcs.{Told}
+use Rattle.runs.specs.Overs.{Counted, Stepped, ahead}
 use Rattle.blocks.specs.Searches.{Calm, LeadsIn, Finds, Counts, Searched, Moved, answerTo, countTo}
 use Rattle.blocks.specs.Promise.{BlocksDecided, BlocksPromise, records, saysBlocked}
 use Rattle.blocks.specs.declared.critical.Marked.{Marked}
 use Rattle.blocks.specs.declared.critical.Marked.the-variants.{Fine, Bad as Broken}
-use Rattle.blocks.specs.declared.owners.Step.{Step}
-use Rattle.blocks.specs.declared.owners.Step.the-variants.{Block as One, Done, Bad as NoStep}
-use Rattle.blocks.specs.declared.owners.Number.{Number}
-use Rattle.blocks.specs.declared.owners.Number.the-variants.{Is, More, Bad as NoNumber}
+use Rattle.runs.specs.declared.owners.Step.{Step}
+use Rattle.runs.specs.declared.owners.Step.the-variants.{Block as One, Done, Bad as NoStep}
+use Rattle.runs.specs.declared.owners.Number.{Number}
+use Rattle.runs.specs.declared.owners.Number.the-variants.{Is, More, Bad as NoNumber}
 use Rattle.blocks.specs.declared.blocks.Blocked.{Blocked}
 use Rattle.blocks.specs.declared.blocks.Blocked.the-variants.{Are, Refused}
 use Rattle.blocks.specs.declared.blocks.Search.{Search}

@@ -11,7 +11,7 @@ use Rattle.rules.specs.Graphs.{LineUp}
 use Rattle.rules.specs.Lists as L
 use Rattle.rules.specs.Lists.{tick}
 use Rattle.rules.specs.Shown.{order}
-use Rattle.rules.proofs.Starts.{Solves}
+use Rattle.rules.specs.Solved.{Solves}
 use Rattle.edges.specs.Edges.{Model, Holds}
 use Rattle.graphs.specs.Graph.{at, zeros, live, Below}
 use Rattle.blocks.specs.declared.critical.When.{When}

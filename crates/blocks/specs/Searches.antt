@@ -21,8 +21,8 @@ use Rattle.times.specs.Words.{spanWords, startOf}
 use Rattle.stores.specs.declared.header.Header.the-variants.{Refused as Unopened}
 use Rattle.stores.specs.Headers.{openOf}
 use Rattle.stores.specs.Promise.{Slices, lentOf, Held}
-use Rattle.blocks.specs.Arcs.{Told}
-use Rattle.blocks.specs.Overs.{Rows, ahead}
+use Rattle.runs.specs.Arcs.{Told}
+use Rattle.runs.specs.Overs.{Rows, ahead}
 use Rattle.blocks.specs.declared.blocks.Blocked.{Blocked}
 use Rattle.blocks.specs.declared.blocks.Blocked.the-variants.{Are, Refused}
 use Rattle.blocks.specs.declared.blocks.Search.{Search}

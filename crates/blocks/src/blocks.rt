@@ -1,12 +1,12 @@
 // The public call: the critical blocks of a list of owners, written as records into a lent list.
 use crate::critical::Marked;
 use crate::critical::critical;
-use crate::owners::Number;
-use crate::owners::Step;
-use crate::owners::count;
-use crate::owners::next;
 use rules::Block;
 use rules::Refusal;
+use runs::owners::Number;
+use runs::owners::Step;
+use runs::owners::count;
+use runs::owners::next;
 use stores::header::Header;
 use stores::header::broad;
 use stores::header::opened;

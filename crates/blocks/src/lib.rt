@@ -3,5 +3,3 @@
 
 pub mod blocks;
 mod critical;
-mod owners;
-mod runs;

@@ -12,9 +12,9 @@ use lib.Seq.{getD-set-same, getD-set-other}
 use borrow.Author.Tests.{eq-eqb, ne-eqb, eqb-true, eqb-false}
 use Rattle.rules.specs.Lists.{Pair, memb as has, samePair, table, tick, times}
 use Rattle.rules.specs.Routes.{Heads, adds, alter, appear, outs, turned}
+use Rattle.rules.specs.Sound.{Inside}
 use Rattle.rules.proofs.Tabled.{list-table, table-same}
 use Rattle.rules.proofs.Ranges.{Test, clash, fail, pass, test}
-use Rattle.rules.proofs.Stages.{Inside}
 use Rattle.edges.specs.Rows.{flat}
 use Rattle.edges.specs.Edges.{AllPos, Edge, Model, Once, Wf, addEdge, countOf, hasEdge, memb, moreIn, pick, timesIn, timesOf, toOf}
 use Rattle.edges.proofs.Rows as rows

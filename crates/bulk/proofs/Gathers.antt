@@ -11,8 +11,8 @@ use lib.Seq.{drop-cons, length-take-le, sets}
 use borrow.Author.Tests.{leb-false, lt-ltb, le-ltb, ltb-false, ltb-true}
 use Rattle.rules.specs.Lists.{Pair, anyOf, samePair, tick}
 use Rattle.rules.specs.Sizes.{falls}
+use Rattle.rules.specs.Sound.{Inside}
 use Rattle.rules.proofs.Members.{or-false}
-use Rattle.rules.proofs.Stages.{Inside}
 use Rattle.edges.specs.Rows.{flat, pad}
 use Rattle.edges.specs.Edges.{Edge, Holds, Model, Wf, addEdge, countOf, moreIn, tabs, toOf}
 use Rattle.edges.proofs.Links as links

@@ -1,11 +1,4 @@
 // The calls of layer 3. Each asks for room for the numbers first (13), then hands everything on.
-use crate::numbers::code;
-use crate::numbers::lacks_room;
-use crate::numbers::tell;
-use crate::numbers::tell_report;
-use crate::numbers::tell_two;
-use crate::numbers::write;
-use crate::numbers::zero;
 use loads::load::load;
 use refresh::put::Changed;
 use refresh::put::put;
@@ -20,12 +13,19 @@ use stores::score::Scored;
 use stores::score::score;
 use stores::starts::Started;
 use stores::starts::starts;
+use tells::numbers::code;
+use tells::numbers::lacks_room;
+use tells::numbers::tell;
+use tells::numbers::tell_report;
+use tells::numbers::tell_two;
+use tells::numbers::write;
+use tells::numbers::zero;
 ghost use mathlib.Core.List.{[]};
 ghost use lib.ListN.{length};
 ghost use Rattle.rules.specs.Calls.{to-load, to-reset, to-retract, to-put, to-score, to-verdict, to-starts};
 ghost use Rattle.loads.specs.Loads.{loading};
 ghost use Rattle.stores.specs.Promise.{slices};
-ghost use Rattle.capi.specs.Numbers.{Answers};
+ghost use Rattle.tells.specs.Numbers.{Answers};
 
 // A plan, in place of what the store held.
 #[no_mangle]

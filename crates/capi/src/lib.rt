@@ -3,4 +3,3 @@
 pub mod calls;
 pub mod critical;
 pub mod moving;
-pub mod numbers;

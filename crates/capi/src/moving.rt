@@ -1,18 +1,18 @@
 // The moves of layer 4: the new route into `out`, both verdicts and the route's length into `told`.
-use crate::numbers::code;
-use crate::numbers::lacks_room;
-use crate::numbers::tell_move;
 use moves::moved::Moved;
 use moves::moved::list_change;
 use moves::moved::permutation;
 use moves::moved::sublist_change;
 use moves::moved::sublist_swap;
 use rules::Owner;
+use tells::numbers::code;
+use tells::numbers::lacks_room;
+use tells::numbers::tell_move;
 ghost use lib.ListN.{length};
 ghost use Rattle.rules.specs.Calls.{to-move};
 ghost use Rattle.rules.specs.Moves.{list-change, sublist-change, sublist-swap, permutation as permuted};
 ghost use Rattle.stores.specs.Promise.{slices};
-ghost use Rattle.capi.specs.Numbers.{Answers};
+ghost use Rattle.tells.specs.Numbers.{Answers};
 
 // A job to another place of its route.
 #[no_mangle]

@@ -11,8 +11,9 @@ use lib.Dec.{eqb}
 use Rattle.rules.specs.Sizes.{longest}
 use Rattle.rules.specs.Reports.{Outcome, push, tri, upd, walk}
 use Rattle.rules.specs.Scores.{best, start}
+use Rattle.rules.specs.Solved.{Solves}
 use Rattle.rules.proofs.Ranges.{same}
-use Rattle.rules.proofs.Starts.{Solves, best-bound, start-solves}
+use Rattle.rules.proofs.Starts.{best-bound, start-solves}
 use Rattle.rules.proofs.Walks.{Mended, mends, upd-set}
 use Rattle.edges.specs.Edges.{Model}
 use Rattle.graphs.specs.Graph.{at, zeros, live, outOf}

@@ -9,8 +9,8 @@ use Rattle.rules.specs.Graphs.{Graph}
 use Rattle.rules.specs.Sizes.{Base, longest}
 use Rattle.rules.specs.Lists.{Once, memb}
 use Rattle.rules.specs.Scores.{floorOf, start}
-use Rattle.rules.proofs.Orders.{Ranks}
-use Rattle.rules.proofs.Starts.{best-edges, Solves, solves-same, start-bound, start-solves}
+use Rattle.rules.specs.Solved.{Ranks, Solves}
+use Rattle.rules.proofs.Starts.{best-edges, solves-same, start-bound, start-solves}
 use Rattle.edges.specs.Edges.{Model}
 use Rattle.graphs.specs.Graph.{at, zeros, live}
 use Rattle.graphs.specs.Sound.{Seeded}

@@ -5,8 +5,8 @@ use mathlib.Core.Bool.{true, false}
 use mathlib.Core.List.{List}
 use Rattle.rules.specs.Lists.{Once, memb}
 use Rattle.rules.specs.Scores.{best}
-use Rattle.rules.proofs.Orders.{Ranks}
 use Rattle.rules.specs.Sizes.{longest}
+use Rattle.rules.specs.Solved.{Ranks}
 use Rattle.edges.specs.Edges.{Model, Holds}
 use Rattle.graphs.specs.Graph.{at, zeros, live, Below}
 

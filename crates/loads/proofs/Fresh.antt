@@ -12,8 +12,8 @@ use Rattle.rules.specs.Lists.{anyOf}
 use Rattle.rules.specs.Sizes.{Base, Loading, baseOf, badFrom, falls, pairUp}
 use Rattle.rules.specs.Refusals.{firstOf, loadChecks}
 use Rattle.rules.specs.Routes.{fresh}
+use Rattle.rules.specs.Sound.{Sound}
 use Rattle.rules.proofs.Members.{or-false}
-use Rattle.rules.proofs.Puts.{Sound}
 use Rattle.rules.proofs.History.{Passed, passed, load-loaded, fresh-sound}
 use Rattle.routes.proofs.Freshly.{fresh-routes}
 use Rattle.routes.proofs.Wellformed.{has-words}

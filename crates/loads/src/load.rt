@@ -135,8 +135,8 @@ fn lay_spans(a: &mut [u64], s: &[u64])
     ensures { λ _. ⌜ now (a .exit) ≡ padded 512 (now (s .entry)) ++ drop 512 (now (a .entry)) ⌝ }
 {
     let k = s.len();
-    times::u64s::copy(a, 0, s, k);
-    times::u64s::fill(a, k, 512, 0);
+    tables::u64s::copy(a, 0, s, k);
+    tables::u64s::fill(a, k, 512, 0);
 }
 
 // 1 for a `to` that is no job.

@@ -21,21 +21,21 @@ use Rattle.rules.specs.Refusals.{firstOf, isBroken, noOwner, noPositions, tooFe
 use Rattle.rules.specs.Routes.{Plan, Stop, emptyRoute, jobsOf, routeOf}
 use Rattle.rules.specs.Scores.{isCyclic}
 use Rattle.rules.specs.Sizes.{Base, falls, isShort, mostFixed, mostOwners, pairUp}
+use Rattle.rules.specs.Sound.{LowStops}
 use Rattle.rules.proofs.Checks.{below-all, checks-agree-calm, new-jobs}
 use Rattle.rules.proofs.Ranges.{Test, clash, fail, lt-or-le, pass, same, test}
-use Rattle.rules.proofs.Stages.{LowStops}
 use Rattle.routes.specs.Desks.{edgesOf, routesOf}
 use Rattle.routes.specs.Store.{Holds as RoutesHold, Model, routeAt}
 use Rattle.graphs.proofs.Kahn.{memb-later, memb-self}
 use Rattle.times.proofs.Graphing.{below, live-fun}
-use Rattle.stores.specs.Headers.{openOf}
+use Rattle.stores.specs.Headers.{openOf, countsOf}
 use Rattle.stores.specs.Promise.{Decided, Held, Promise, Slices, answerOf, lentOf}
 use Rattle.stores.specs.Says.{places}
 use Rattle.stores.specs.Words.{baseWords, froms, padded, tos}
 use Rattle.stores.specs.declared.header.Header.{Header}
 use Rattle.stores.specs.declared.header.Header.the-variants.{Is as Headed, Refused as Unopened}
 use Rattle.loads.proofs.Laying.{padded-length}
-use Rattle.stores.proofs.Openings.{countsOf, open-short, open-some}
+use Rattle.stores.proofs.Openings.{open-short, open-some}
 use Rattle.stores.proofs.Promises.{closed-kept, decided-read, decided-refused, opened-kept, refusal-long}
 use Rattle.stores.proofs.Scores.{timed}
 use Rattle.stores.proofs.Tabled.{part-slice, places-take, table-at, taken-sets}
@@ -45,11 +45,11 @@ use Rattle.probes.specs.Judges.{Checks, onFor, staysFor}
 use Rattle.views.specs.Pairs.{Rising, fromsIn, pairsIn}
 use Rattle.probes.specs.declared.checks.Checked.{Checked}
 use Rattle.probes.specs.declared.checks.Checked.the-variants.{Is as Checks-are, Bad}
-use Rattle.moves.specs.Stopping.{Stops, Whole}
+use Rattle.reroutes.specs.Stopping.{Stops, Whole}
 use Rattle.moves.specs.declared.moved.Begun.{Begun}
 use Rattle.moves.specs.declared.moved.Begun.the-variants.{Is as Ready, Refused as Unready}
-use Rattle.moves.specs.declared.stops.Route.{Route as Stopped}
-use Rattle.moves.specs.declared.stops.Route.the-variants.{Of, Broken, Bad as Lost}
+use Rattle.reroutes.specs.declared.stops.Route.{Route as Stopped}
+use Rattle.reroutes.specs.declared.stops.Route.the-variants.{Of, Broken, Bad as Lost}
 use Rattle.moves.specs.declared.moved.Moved.{Moved}
 use Rattle.moves.specs.declared.moved.Moved.the-variants.{Is, Refused}
 

@@ -10,16 +10,15 @@ use Rattle.rules.specs.declared.Refusal.the-variants.{ShortAnswer}
 use Rattle.rules.specs.Calls.{Reply, refused, rerouted, to-move}
 use Rattle.rules.specs.Moves.{Move, goodPositions, isMovedCyclic, isMovedQuick, moved, newRoute}
 use Rattle.rules.specs.Routes.{Plan, jobsOf, routeOf}
-use Rattle.rules.proofs.Puts.{Sound}
+use Rattle.rules.specs.Sound.{Sound}
 use Rattle.edges.specs.Edges.{Holds}
 use Rattle.routes.specs.Desks.{edgesOf}
 use Rattle.times.specs.Words.{timeWords}
-use Rattle.stores.specs.Headers.{openOf}
+use Rattle.stores.specs.Headers.{openOf, countsOf}
 use Rattle.stores.specs.Promise.{Held, Promise, Slices, lentOf}
 use Rattle.stores.specs.Says.{places}
 use Rattle.stores.specs.Words.{baseWords}
 use Rattle.stores.specs.declared.header.Header.the-variants.{Is as Headed}
-use Rattle.stores.proofs.Openings.{countsOf}
 use Rattle.moves.specs.declared.moved.Begun.{Begun}
 use Rattle.moves.specs.declared.moved.Begun.the-variants.{Is as Ready, Refused as Unready}
 use Rattle.moves.specs.declared.moved.Moved.{Moved}

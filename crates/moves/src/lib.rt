@@ -1,4 +1,2 @@
 // Layer 4: the four moves with both checks. The store is only read.
 pub mod moved;
-pub mod reroute;
-pub mod stops;

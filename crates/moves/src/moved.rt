@@ -1,11 +1,11 @@
 // The four moves: the new route into the answer buffer, and both verdicts. The store is only read.
-use crate::reroute;
-use crate::stops::Route;
-use crate::stops::are_jobs;
-use crate::stops::route_of;
 use probes::checks::Checked;
 use probes::checks::check;
 use refresh::verdict::show;
+use reroutes::reroute;
+use reroutes::stops::Route;
+use reroutes::stops::are_jobs;
+use reroutes::stops::route_of;
 use rules::Owner;
 use rules::Plan;
 use rules::Refusal;

@@ -64,6 +64,9 @@ leads-some {rest} {w} {ns} {r} L =
     let l : length rest ≡ length (textOf w ns) + suc (length r) = ap length (L .text) ∙ length-append (textOf w ns) (10 ∷ r) in
     omega arith
 
+pub empty-leads : {A : Type 0} {w : Word} {ns r : List ℕ} → Leads [] w ns r → A
+empty-leads L = let h = leads-some L in absurd (omega arith)
+
 -- without an LF no line leads
 pub none-leads : {rest : List ℕ} {w : Word} {ns r : List ℕ} → Every notEnd rest → Leads rest w ns r → ⊥
 none-leads {w = w} {ns = ns} {r = r} e L = unlike (every-at notEnd (textOf w ns) 10 r (rw (L .text) at e)) refl

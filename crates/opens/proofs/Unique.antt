@@ -10,7 +10,7 @@ use Rattle.opens.specs.declared.steps.Stage.the-variants.{Fixed}
 use Rattle.opens.specs.Lines.{Leads}
 use Rattle.opens.specs.Opens.{Typing, Fits, Opening, opened, Opens, ends, goes, unfit, line}
 use Rattle.opens.proofs.Fitting.{fits-tell, fits-same}
-use Rattle.opens.proofs.Spelling.{leads-same, leads-some}
+use Rattle.opens.proofs.Spelling.{leads-same, empty-leads}
 
 -- `go` is no line that fits
 go-apart : {A : Type 0} {t t′ : Typing} {st : Stage} {w : Word} {rest ns r s : List ℕ}
@@ -21,16 +21,12 @@ go-apart L M F =
     let z : _≡_ {A = ℕ} 0 1 = cc in
     absurd (omega arith)
 
--- an empty rest leads no line
-empty : {A : Type 0} {w : Word} {ns r : List ℕ} → Leads [] w ns r → A
-empty L = let h = leads-some L in absurd (omega arith)
-
 pub opens-same : {st : Stage} {t : Typing} {k : ℕ} {rest : List ℕ} {x y : Opening} → Opens st t k rest x → Opens st t k rest y → x ≡ y
 opens-same ends ends = refl
-opens-same ends (goes L) = empty L
+opens-same ends (goes L) = empty-leads L
 opens-same ends (unfit M) = let h = M .some-left in absurd (omega arith)
-opens-same ends (line L F P) = empty L
-opens-same (goes L) ends = empty L
+opens-same ends (line L F P) = empty-leads L
+opens-same (goes L) ends = empty-leads L
 opens-same {t = t} {k = k} (goes L) (goes M) = ap (λ (r : List ℕ). opened t r (suc k)) (leads-same L M .2)
 opens-same (goes {rest′ = r} L) (unfit M) = absurd (M .no-go r refl L)
 opens-same (goes L) (line M F P) = go-apart L M F
@@ -38,7 +34,7 @@ opens-same (unfit M) ends = let h = M .some-left in absurd (omega arith)
 opens-same (unfit M) (goes {rest′ = r} L) = absurd (M .no-go r refl L)
 opens-same (unfit M) (unfit N) = refl
 opens-same (unfit M) (line L F P) = absurd (M .no-line _ _ _ _ _ L F)
-opens-same (line L F P) ends = empty L
+opens-same (line L F P) ends = empty-leads L
 opens-same (line L F P) (goes M) = go-apart M L F
 opens-same (line L F P) (unfit M) = absurd (M .no-line _ _ _ _ _ L F)
 opens-same (line L F P) (line M G Q) =

@@ -7,9 +7,9 @@ use native.Mathlib.Omega.{arith}
 use borrow.Author.Tests.{lt-ltb}
 use Rattle.rules.specs.Lists.{times}
 use Rattle.rules.specs.Scores.{timesIn}
-use Rattle.routes.specs.Turns.{isEdge}
-use Rattle.routes.specs.Exchanged.{pairOf}
-use Rattle.routes.proofs.Codes.{times-pairs}
+use Rattle.exchanges.specs.Turns.{isEdge}
+use Rattle.exchanges.specs.Exchanged.{pairOf}
+use Rattle.exchanges.proofs.Codes.{times-pairs}
 
 pub edge-is : (u v : ℕ) → u < 512 → v < 512 → isEdge (u * 512 + v) ≡ true
 edge-is u v h k = lt-ltb (u * 512 + v) 262144 (omega arith)

@@ -13,13 +13,13 @@ use borrow.Author.Tests.{eq-eqb, ne-eqb}
 use Rattle.rules.specs.Lists.{memb}
 use Rattle.rules.specs.Sizes.{mostEntries, mostOwners}
 use Rattle.rules.specs.Routes.{Plan, Route, Emptied, emptyRoute, routeOf, inForce, empty, emptied, without}
+use Rattle.rules.specs.Sound.{Sound}
+use Rattle.rules.specs.Steps.{staging, turning, amid, begun, unwaited}
 use Rattle.rules.proofs.Ranges.{clash}
 use Rattle.rules.proofs.Walks.{or-right}
 use Rattle.rules.proofs.Stages.{empty-read, sum-at}
-use Rattle.rules.proofs.Puts.{Sound}
-use Rattle.rules.proofs.Steps.{staging, turning, amid, begun, unwaited}
 use Rattle.rules.proofs.Steps.{without-turns, without-went, empty-more, empty-none, emptied-all, given-up}
-use Rattle.routes.specs.declared.exchange.Swap as swap
+use Rattle.exchanges.specs.declared.exchange.Swap as swap
 use Rattle.routes.specs.declared.wait.Sum.{Sum}
 use Rattle.routes.specs.declared.wait.Sum.the-variants.{Is, Bad}
 use Rattle.routes.specs.Store.{Model, Holds}

@@ -15,11 +15,11 @@ use Rattle.rules.proofs.Ranges.{clash}
 use Rattle.rules.proofs.Stages.{tips}
 use Rattle.rules.proofs.Steps.{push-append, push-new}
 use Rattle.edges.specs.Edges.{Model}
-use Rattle.routes.specs.declared.exchange.Swap.{Swap}
-use Rattle.routes.specs.Differs.{codes, Linked}
-use Rattle.routes.specs.Turns.{head}
-use Rattle.routes.specs.Exchanged.{pairOf, headsOnce}
-use Rattle.routes.specs.Swapped.{Swapped}
+use Rattle.exchanges.specs.declared.exchange.Swap.{Swap}
+use Rattle.exchanges.specs.Differs.{codes, Linked}
+use Rattle.exchanges.specs.Turns.{head}
+use Rattle.exchanges.specs.Exchanged.{pairOf, headsOnce}
+use Rattle.exchanges.specs.Swapped.{Swapped}
 use Rattle.puts.specs.Puts.{Queues}
 
 -- ── how many ──

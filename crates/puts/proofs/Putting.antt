@@ -8,19 +8,21 @@ use lib.Seq.{sets, getD-set-same, length-sets}
 use Rattle.rules.specs.Sizes.{mostEntries}
 use Rattle.rules.specs.Routes.{Plan, Route, Stage, emptyRoute, routeOf, violationsOf, inForce, read, emptied, ownStage, putPlan}
 use Rattle.rules.specs.Reports.{push, seeds}
-use Rattle.rules.proofs.Stages.{Read, read-read, sum-at}
+use Rattle.rules.specs.Sound.{Read}
+use Rattle.rules.specs.Steps.{staging, turning, amid, unwaited}
+use Rattle.rules.proofs.Stages.{read-read, sum-at}
 use Rattle.rules.proofs.Puts.{emptied-along}
-use Rattle.rules.proofs.Steps.{staging, turning, amid, unwaited, put-entries, freedOf}
-use Rattle.routes.specs.declared.snap.Snap.{Snap}
-use Rattle.routes.specs.declared.exchange.Swap as swap
+use Rattle.rules.proofs.Steps.{put-entries, freedOf}
+use Rattle.asks.specs.declared.snap.Snap.{Snap}
+use Rattle.exchanges.specs.declared.exchange.Swap as swap
 use Rattle.routes.specs.declared.wait.Sum as sum
 use Rattle.puts.specs.declared.put.Outcome.{Outcome}
 use Rattle.puts.specs.declared.put.Outcome.the-variants.{Done, NoRoom, Bad}
-use Rattle.routes.specs.Stops.{word, words}
+use Rattle.exchanges.specs.Stops.{word, words}
 use Rattle.routes.specs.Store.{Model, Holds}
 use Rattle.routes.specs.Spans.{Lies}
 use Rattle.routes.specs.Freed.{Freed}
-use Rattle.routes.specs.Snapped.{Snapped}
+use Rattle.asks.specs.Snapped.{Snapped}
 use Rattle.routes.specs.Desks.{routesOf, Desked}
 use Rattle.puts.specs.Puts.{Queues, Gives, Turned, RouteTurn, Freely, AllEmptied, Crowded, PutDone, Entered, StopsPut}
 use Rattle.puts.specs.Puts.{Asked, PutPromised, Within, SumWithin}

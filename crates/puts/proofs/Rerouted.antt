@@ -13,11 +13,11 @@ use Rattle.rules.specs.Lists.{table}
 use Rattle.rules.specs.Sizes.{mostJobs, mostOwners}
 use Rattle.rules.specs.Routes.{Plan, Route, emptyRoute, routeOf, jobsOf, violationsOf}
 use Rattle.rules.specs.Scores.{assigned, timesIn}
+use Rattle.rules.specs.Sound.{Sound}
+use Rattle.rules.specs.Steps.{turning}
 use Rattle.rules.proofs.Ranges.{same}
 use Rattle.rules.proofs.Tabled.{table-at, table-same, table-set, list-table}
 use Rattle.rules.proofs.Stages.{sum-set, sum-at}
-use Rattle.rules.proofs.Puts.{Sound}
-use Rattle.rules.proofs.Steps.{turning}
 use Rattle.routes.specs.Store.{Model}
 use Rattle.routes.specs.Desks.{routesOf}
 

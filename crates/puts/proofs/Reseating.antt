@@ -10,10 +10,10 @@ use lib.ListN.{length, getD, set, length-map}
 use Rattle.rules.specs.Sizes.{mostJobs, mostEntries}
 use Rattle.rules.specs.Routes.{Plan, Route, Stop, routeOf, jobsOf}
 use Rattle.rules.specs.Scores.{assigned, timesIn}
+use Rattle.rules.specs.Sound.{Sound}
+use Rattle.rules.specs.Steps.{turning}
 use Rattle.rules.proofs.Ranges.{lt-or-le}
 use Rattle.rules.proofs.Tabled.{table-length, table-at, table-past}
-use Rattle.rules.proofs.Puts.{Sound}
-use Rattle.rules.proofs.Steps.{turning}
 use Rattle.routes.specs.declared.rows.Done.{Done}
 use Rattle.routes.specs.declared.rows.Done.the-variants.{Fine, Bad}
 use Rattle.routes.specs.Store.{Model, Holds, Low, routeAt, putRoute, Puttable, RoutePut}

@@ -17,10 +17,10 @@ use Rattle.rules.proofs.Stored.{appear-other}
 use Rattle.rules.proofs.Bounds.{rows-few, edgesOf, times-length}
 use Rattle.edges.specs.Rows.{flat}
 use Rattle.edges.specs.Edges.{Edge, Model, toOf, Room}
-use Rattle.routes.specs.Turns.{tail, head, isEdge, turnOne, ReadyAll}
-use Rattle.routes.specs.Exchanged.{pairOf, headsIn, headsOf, countAt}
-use Rattle.routes.proofs.Bridged.{Fit, bridge, shown-heads}
-use Rattle.routes.proofs.Codes.{pair-of as pair-is}
+use Rattle.exchanges.specs.Turns.{tail, head, isEdge, turnOne, ReadyAll}
+use Rattle.exchanges.specs.Exchanged.{pairOf, headsIn, headsOf, countAt}
+use Rattle.exchanges.proofs.Bridged.{Fit, bridge, shown-heads}
+use Rattle.exchanges.proofs.Codes.{pair-of as pair-is}
 use Rattle.puts.proofs.Coding.{edge-is}
 use Rattle.routes.proofs.Desking.{past}
 

@@ -12,22 +12,22 @@ use borrow.Author.Tests.{eqb-true, ltb-true, lt-ltb}
 use Rattle.rules.specs.Lists.{memb, Pair, times}
 use Rattle.rules.specs.Routes.{Plan, Route, Stop, Heads, outs, alter, vanish, linksOf, routeOf}
 use Rattle.rules.specs.Scores.{timesIn}
+use Rattle.rules.specs.Sound.{Inside, LowStops, Read, Sound}
+use Rattle.rules.specs.Steps.{turning}
 use Rattle.rules.proofs.Ranges.{Test, pass, fail, test, clash, same}
 use Rattle.rules.proofs.Members.{or-true}
 use Rattle.rules.proofs.Stored.{vanish-other}
-use Rattle.rules.proofs.Stages.{Inside, LowStops, Read}
-use Rattle.rules.proofs.Puts.{Sound, live-inside}
-use Rattle.rules.proofs.Steps.{turning}
+use Rattle.rules.proofs.Puts.{live-inside}
 use Rattle.rules.proofs.Bounds.{holding, holders-times, holding-few}
 use Rattle.edges.specs.Edges.{Edge, Model, Wf, toOf}
-use Rattle.routes.specs.Stops.{bit, words}
+use Rattle.exchanges.specs.Stops.{bit, words}
 use Rattle.routes.specs.Desks.{edgesOf}
-use Rattle.routes.specs.Differs.{codes, struck}
-use Rattle.routes.specs.Turns.{tail, head, isEdge, turnOne, turnAll}
-use Rattle.routes.specs.Exchanged.{pairOf, headsIn, headsOf, countAt}
-use Rattle.routes.specs.Swapped.{Swappable, Roomy}
-use Rattle.routes.proofs.Bridged.{Fit, fit, bridge, shown-heads}
-use Rattle.routes.proofs.Codes.{codes-links}
+use Rattle.exchanges.specs.Differs.{codes, struck}
+use Rattle.exchanges.specs.Turns.{tail, head, isEdge, turnOne, turnAll}
+use Rattle.exchanges.specs.Exchanged.{pairOf, headsIn, headsOf, countAt}
+use Rattle.exchanges.specs.Swapped.{Swappable, Roomy}
+use Rattle.exchanges.proofs.Bridged.{Fit, fit, bridge, shown-heads}
+use Rattle.exchanges.proofs.Codes.{codes-links}
 use Rattle.puts.proofs.Coding.{times-code}
 use Rattle.routes.proofs.Desking.{out-is, count-is}
 use Rattle.puts.proofs.Staged.{old-inside, new-inside, old-held, next-count}

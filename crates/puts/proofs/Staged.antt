@@ -7,13 +7,13 @@ use lib.ListN.{length, getD, set, length-map}
 use Rattle.rules.specs.Lists.{isZero, keep, Pair, times}
 use Rattle.rules.specs.Sizes.{mostJobs}
 use Rattle.rules.specs.Routes.{Plan, Route, Heads, outs, relist, turned, holders, linksOf, routeOf, emptyRoute, exchange, staged}
+use Rattle.rules.specs.Sound.{Inside, Read, Sound}
+use Rattle.rules.specs.Steps.{staging, turning}
 use Rattle.rules.proofs.Tabled.{table-length}
-use Rattle.rules.proofs.Stages.{Inside, inside-turned, links-inside, Read, sum-at, tells}
-use Rattle.rules.proofs.Puts.{Sound}
-use Rattle.rules.proofs.Steps.{staging, turning}
+use Rattle.rules.proofs.Stages.{inside-turned, links-inside, sum-at, tells}
 use Rattle.edges.specs.Edges.{Edge, Model, toOf, countOf, hasEdge, Wf}
 use Rattle.routes.specs.Desks.{edgesOf, edgesFrom}
-use Rattle.routes.specs.Exchanged.{headsIn, headsOf, countBy}
+use Rattle.exchanges.specs.Exchanged.{headsIn, headsOf, countBy}
 use Rattle.routes.proofs.Desking.{out-is, pre-is, count-is, model-is}
 use Rattle.puts.proofs.Staging.{Alike, Agree, relist-alike, keep-agree}
 

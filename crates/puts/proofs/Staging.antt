@@ -11,11 +11,12 @@ use lib.Seq.{getD-set-same, getD-set-other}
 use Rattle.rules.specs.Lists.{keep, Pair}
 use Rattle.rules.specs.Routes.{Heads, outs, alter, vanish, appear, drops, adds, relist}
 use Rattle.rules.specs.Reports.{push}
+use Rattle.rules.specs.Sound.{Inside}
 use Rattle.rules.proofs.Ranges.{same}
-use Rattle.rules.proofs.Stages.{Inside, tips}
+use Rattle.rules.proofs.Stages.{tips}
 use Rattle.rules.proofs.Steps.{push-once}
-use Rattle.routes.specs.Turns.{head}
-use Rattle.routes.specs.Exchanged.{pairOf, headsOnce}
+use Rattle.exchanges.specs.Turns.{head}
+use Rattle.exchanges.specs.Exchanged.{pairOf, headsOnce}
 use Rattle.puts.specs.Puts.{Queues}
 
 -- ── tables with the same rows ──

@@ -8,22 +8,22 @@ use lib.Seq.{slice}
 use Rattle.rules.specs.Lists.{Pair, times, keep, isZero}
 use Rattle.rules.specs.Sizes.{mostJobs}
 use Rattle.rules.specs.Routes.{Plan, Route, Stop, exchange, routeOf, linksOf, relist, turned}
-use Rattle.rules.proofs.Stages.{Read}
-use Rattle.rules.proofs.Puts.{Sound}
-use Rattle.rules.proofs.Steps.{staging, turning, turning-sound}
+use Rattle.rules.specs.Sound.{Read, Sound}
+use Rattle.rules.specs.Steps.{staging, turning}
+use Rattle.rules.proofs.Steps.{turning-sound}
 use Rattle.edges.specs.Edges.{countOf, Model as EdgeModel, Wf as EdgesWf, Holds as EdgesHold}
 use Rattle.routes.specs.declared.rows.Done as done
-use Rattle.routes.specs.declared.exchange.Swap.{Swap}
-use Rattle.routes.specs.declared.exchange.Swap.the-variants.{Done, Bad}
-use Rattle.routes.specs.Stops.{word, words}
+use Rattle.exchanges.specs.declared.exchange.Swap.{Swap}
+use Rattle.exchanges.specs.declared.exchange.Swap.the-variants.{Done, Bad}
+use Rattle.exchanges.specs.Stops.{word, words}
 use Rattle.routes.specs.Store.{Model, Holds}
 use Rattle.routes.specs.Spans.{Lies}
-use Rattle.routes.specs.Differs.{codes, Linked}
-use Rattle.routes.specs.Exchanged.{pairOf, countBy, headsOf, tailsOf}
-use Rattle.routes.specs.Swapped.{Swapped, EdgesSwapped}
+use Rattle.exchanges.specs.Differs.{codes, Linked}
+use Rattle.exchanges.specs.Exchanged.{pairOf, countBy, headsOf, tailsOf}
+use Rattle.exchanges.specs.Swapped.{Swapped, EdgesSwapped}
 use Rattle.routes.specs.Desks.{edgesOf, routesOf, Desked}
 use Rattle.puts.specs.Puts.{Queues, Gives, RoutesTurn, EdgesTurn, Turned, RouteTurn, Within, Capped}
-use Rattle.routes.proofs.Codes.{pair-of as pair-is}
+use Rattle.exchanges.proofs.Codes.{pair-of as pair-is}
 use Rattle.puts.proofs.Coding.{edge-is}
 use Rattle.routes.proofs.Placed.{stops-words}
 use Rattle.puts.proofs.Staging.{once-queues}

@@ -13,15 +13,15 @@ use Rattle.rules.specs.Lists.{table, tick, memb, sumOf}
 use Rattle.rules.specs.Sizes.{mostOwners}
 use Rattle.rules.specs.Routes.{Plan, Route, Stop, emptyRoute, routeOf, jobsOf, inForce}
 use Rattle.rules.specs.Scores.{assigned, timesIn}
+use Rattle.rules.specs.Sound.{LowStops, Sound}
 use Rattle.rules.proofs.Ranges.{clash, lt-or-le}
 use Rattle.rules.proofs.Members.{or-true}
 use Rattle.rules.proofs.Tabled.{table-length, table-at, table-past}
-use Rattle.rules.proofs.Stages.{LowStops, sum-set}
-use Rattle.rules.proofs.Puts.{Sound}
+use Rattle.rules.proofs.Stages.{sum-set}
 use Rattle.rules.proofs.Steps.{freedOf}
 use Rattle.edges.specs.Rows.{offs, flat}
 use Rattle.edges.proofs.Rows.{offs-length, offs-last}
-use Rattle.routes.specs.Stops.{word}
+use Rattle.exchanges.specs.Stops.{word}
 use Rattle.routes.specs.Store.{Model, Holds, routeAt, rows, row, front, encode}
 use Rattle.routes.specs.Freed.{freedBy}
 use Rattle.routes.specs.Desks.{routesOf}

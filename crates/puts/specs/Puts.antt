@@ -11,18 +11,17 @@ use Rattle.rules.specs.Sizes.{mostEntries}
 use Rattle.rules.specs.Routes.{Plan, Route, Emptied, emptyRoute, routeOf}
 use Rattle.rules.specs.Routes.{violationsOf, inForce, read, empty, emptied, ownStage, putPlan}
 use Rattle.rules.specs.Reports.{push, headOf, seeds}
-use Rattle.rules.proofs.Stages.{Read}
-use Rattle.rules.proofs.Puts.{Sound}
-use Rattle.rules.proofs.Steps.{staging, turning, amid, begun, unwaited}
+use Rattle.rules.specs.Sound.{Read, Sound}
+use Rattle.rules.specs.Steps.{staging, turning, amid, begun, unwaited}
 use Rattle.routes.specs.declared.rows.Done as done
-use Rattle.routes.specs.declared.exchange.Swap as swap
+use Rattle.exchanges.specs.declared.exchange.Swap as swap
 use Rattle.routes.specs.declared.wait.Sum as sum
 use Rattle.puts.specs.declared.put.Outcome as outcome
-use Rattle.routes.specs.Stops.{words}
+use Rattle.exchanges.specs.Stops.{words}
 use Rattle.routes.specs.Store.{Holds}
-use Rattle.routes.specs.Snapped.{Stated}
-use Rattle.routes.specs.Differs.{codes}
-use Rattle.routes.specs.Swapped.{EdgesSwapped}
+use Rattle.asks.specs.Snapped.{Stated}
+use Rattle.exchanges.specs.Differs.{codes}
+use Rattle.exchanges.specs.Swapped.{EdgesSwapped}
 use Rattle.routes.specs.Desks.{routesOf, Desked}
 
 -- the jobs h queue what the heads of the edges l queue

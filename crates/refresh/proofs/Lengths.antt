@@ -7,7 +7,7 @@ use lib.ListN.{length, length-append, length-map}
 use Rattle.rules.specs.Lists.{Pair, table}
 use Rattle.rules.specs.Sizes.{Base, expectedOf, duration, mostJobs, mostFixed}
 use Rattle.rules.specs.Routes.{Plan}
-use Rattle.rules.proofs.Puts.{Loaded}
+use Rattle.rules.specs.Sound.{Loaded}
 use Rattle.rules.proofs.Tabled.{table-length}
 use Rattle.edges.specs.Edges.{Model as EdgeModel, Wf as EdgesWf, encode as edgeWords, tabs}
 use Rattle.edges.specs.Rows.{pad}

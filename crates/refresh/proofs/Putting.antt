@@ -21,16 +21,16 @@ use Rattle.rules.specs.Refusals.{Check, firstOf, noOwner, tooMany, noRoom}
 use Rattle.rules.specs.Scores.{invalidFixed, score, minusOf}
 use Rattle.rules.specs.Reports.{putReport}
 use Rattle.rules.specs.Calls.{changed, refused, to-put, refusal, accepted}
+use Rattle.rules.specs.Sound.{Loaded}
 use Rattle.rules.proofs.Ranges.{lt-or-le}
 use Rattle.rules.proofs.Refused.{accepted-step}
-use Rattle.rules.proofs.Puts.{Loaded}
 use Rattle.puts.specs.declared.put.Outcome as outcome
-use Rattle.routes.specs.declared.ask.Ask.{Ask}
-use Rattle.routes.specs.declared.ask.Ask.the-variants.{Fine}
-use Rattle.routes.specs.Asks.{askOf}
-use Rattle.routes.specs.Snapped.{Stated}
+use Rattle.asks.specs.declared.ask.Ask.{Ask}
+use Rattle.asks.specs.declared.ask.Ask.the-variants.{Fine}
+use Rattle.asks.specs.Asks.{askOf}
+use Rattle.asks.specs.Snapped.{Stated}
 use Rattle.puts.specs.Puts.{Asked, PutPromised}
-use Rattle.routes.proofs.Asking.{refusalOf, ask-is, ask-owner, ask-many}
+use Rattle.asks.proofs.Asking.{refusalOf, ask-is, ask-owner, ask-many}
 use Rattle.times.specs.declared.settle.Settled as settled
 use Rattle.times.specs.Words.{spanWords}
 use Rattle.times.specs.Settles.{Refreshes, Refreshed}
@@ -42,13 +42,13 @@ use Rattle.refresh.specs.declared.put.Followed.the-variants.{Is, Refused
 use Rattle.refresh.specs.declared.put.Changed.{Changed}
 use Rattle.refresh.specs.declared.put.Changed.the-variants.{By, Refused}
 use Rattle.stores.specs.Words.{baseWords, padded, froms, tos}
-use Rattle.stores.specs.Headers.{openOf}
+use Rattle.stores.specs.Headers.{openOf, countsOf}
 use Rattle.stores.specs.Promise.{Slices, slices, lentOf, callOf, Held, holding, after, Decided, Promise}
 use Rattle.stores.specs.Sums.{scoredAt}
 use Rattle.refresh.specs.Changes.{saysChanged, Worded, Puts, Follows, Changes}
 use Rattle.stores.proofs.Tabled.{table-at, part-slice}
 use Rattle.loads.proofs.Laying.{padded-length}
-use Rattle.stores.proofs.Openings.{Opened, open-is, countsOf}
+use Rattle.stores.proofs.Openings.{Opened, open-is}
 use Rattle.stores.proofs.Promises.{closed-kept, opened-kept, decided-refused, refusal-long, held-same}
 use Rattle.stores.proofs.Scores.{scored-held}
 

@@ -15,7 +15,7 @@ use Rattle.rules.specs.Sizes.{isShort}
 use Rattle.rules.specs.Routes.{Plan}
 use Rattle.rules.specs.Shown.{order, cycle, shownLineUp, shownCycle}
 use Rattle.rules.specs.Calls.{to-verdict, Reply, refused, lined-up, cycled, verdictOf, accepted}
-use Rattle.rules.proofs.Puts.{Sound}
+use Rattle.rules.specs.Sound.{Sound}
 use Rattle.edges.specs.Edges.{Model, Holds}
 use Rattle.routes.specs.Desks.{edgesOf}
 use Rattle.graphs.specs.Graph.{live as liveIn, Below}

@@ -7,7 +7,7 @@ use lib.Seq.{sets}
 use Rattle.rules.specs.Routes.{Plan}
 use Rattle.rules.specs.Shown.{shownLineUp, shownCycle}
 use Rattle.rules.specs.Calls.{Reply, refused, lined-up, cycled, verdictOf}
-use Rattle.rules.proofs.Puts.{Sound}
+use Rattle.rules.specs.Sound.{Sound}
 use Rattle.edges.specs.Edges.{Holds}
 use Rattle.routes.specs.Desks.{edgesOf}
 use Rattle.refresh.specs.declared.verdict.Judged.{Judged}

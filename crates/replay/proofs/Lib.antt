@@ -1,5 +1,3 @@
 -- Laws that belong to no one function. Assumes nothing.
 pub mod Ahead
 pub mod Ints
-pub mod Lending
-pub mod Walking

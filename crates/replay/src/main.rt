@@ -1,8 +1,7 @@
 // Runs the recorded calls through the library and compares every answer: a line for each plan, and a total.
 mod answers;
-mod asks;
+mod arguments;
 mod calls;
-mod found;
 mod lists;
 mod moving;
 mod plans;

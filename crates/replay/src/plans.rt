@@ -1,6 +1,6 @@
 // The calls of one plan, on one store that is zeroed at first.
-use crate::asks::answer_to;
-use crate::asks::word_end;
+use crate::arguments::answer_to;
+use crate::arguments::word_end;
 use crate::lists::fields;
 use crate::lists::least;
 use crate::lists::push;

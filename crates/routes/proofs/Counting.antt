@@ -11,20 +11,20 @@ use borrow.Author.Tests.{eq-eqb, ne-eqb, lt-ltb}
 use Rattle.rules.specs.Lists.{table}
 use Rattle.rules.specs.Scores.{timesIn}
 use Rattle.rules.specs.Routes.{Stop, Route, jobsOf}
+use Rattle.rules.specs.Sound.{LowStops}
 use Rattle.rules.proofs.Ranges.{same}
-use Rattle.rules.proofs.Stages.{LowStops}
 use Rattle.edges.specs.Raw.{put}
 use Rattle.edges.specs.Rows.{offs, flat, pad}
 use Rattle.edges.proofs.Rows.{offs-length, pad-length}
 use Rattle.edges.proofs.Tabs.{part-read, part-put}
 use Rattle.routes.specs.declared.rows.Done.{Done}
 use Rattle.routes.specs.declared.rows.Done.the-variants.{Fine}
-use Rattle.routes.specs.Stops.{word, words}
+use Rattle.exchanges.specs.Stops.{word, words}
 use Rattle.routes.specs.Store.{Model, Holds, Wf, Low, routeAt, rows, invalids, front, encode}
 use Rattle.routes.specs.Counts.{stepped, canStep, canCount, countOne, Tally, tally, doneOf, countsIn, Tallied, Unassigned, Assigned}
 use Rattle.routes.specs.Counts.{countedBy, recount, countRoute, Fits, Countable}
-use Rattle.routes.proofs.Often.{bit-one, bit-none}
-use Rattle.routes.proofs.Codes.{half, low-stops}
+use Rattle.exchanges.proofs.Often.{bit-one, bit-none}
+use Rattle.exchanges.proofs.Codes.{half, low-stops}
 use Rattle.routes.proofs.Placed.{stops-words}
 
 -- ── tables ──

@@ -12,9 +12,9 @@ use borrow.Author.Tests.{eq-eqb, ne-eqb, eqb-true, eqb-false}
 use Rattle.rules.specs.Lists.{isZero, table, memb as isIn}
 use Rattle.rules.specs.Sizes.{mostJobs}
 use Rattle.rules.specs.Routes.{Plan, outs, holders}
+use Rattle.rules.specs.Sound.{Sound}
 use Rattle.rules.proofs.Ranges.{Test, pass, fail, test, clash, lt-or-le}
 use Rattle.rules.proofs.Tabled.{table-at, table-past, table-same, list-table}
-use Rattle.rules.proofs.Puts.{Sound}
 use Rattle.edges.specs.Edges.{Edge, Model, toOf, timesIn, countOf, memb, Once, pick, Wf}
 use Rattle.routes.specs.Desks.{edgesFrom, edgesOf}
 

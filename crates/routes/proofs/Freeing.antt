@@ -19,7 +19,7 @@ use Rattle.routes.specs.declared.rows.Span.the-variants.{Row, Bad as Spa
 use Rattle.routes.specs.Store.{Model, Holds, front, encode}
 use Rattle.routes.specs.Spans.{Spans}
 use Rattle.routes.specs.Freed.{givenUp, freedBy, GivenUp, Freed, Cleared}
-use Rattle.routes.proofs.Often.{in-first, in-rest}
+use Rattle.exchanges.proofs.Often.{in-first, in-rest}
 use Rattle.routes.proofs.Waits.{front-length, waits-count, waits-few, waits-read}
 use Rattle.routes.proofs.Placed.{sets-mid, stops-long, lies, senseless}
 

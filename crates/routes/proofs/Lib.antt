@@ -1,26 +1,7 @@
 -- The laws behind `routes`. Assumes nothing.
-pub mod Snaps
 pub mod Waits
 pub mod Splices
 pub mod Placed
-pub mod Linking
-pub mod Seating
-pub mod Matching
-pub mod Often
-pub mod Differing
-pub mod Trimmed
-pub mod Turning
-pub mod Sweeping
-pub mod OneRow
-pub mod Lasts
-pub mod OneByOne
-pub mod Relisting
-pub mod Whole
-pub mod Bridged
-pub mod Closing
-pub mod Common
-pub mod Swapping
-pub mod Codes
 pub mod Tallying
 pub mod Counting
 pub mod Freeing
@@ -28,6 +9,5 @@ pub mod Passing
 pub mod Desking
 pub mod Freshly
 pub mod Retracts
-pub mod Asking
 pub mod Unique
 pub mod Wellformed

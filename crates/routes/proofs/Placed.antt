@@ -15,7 +15,7 @@ use Rattle.edges.proofs.Rows.{row-slice, offs-length, offs-at, offs-next, offs-
 use mathlib.Core.Logic.{_⊎_, inl, inr}
 use Rattle.rules.specs.Routes.{Route, emptyRoute}
 use Rattle.rules.proofs.Ranges.{same}
-use Rattle.routes.specs.Stops.{word, words}
+use Rattle.exchanges.specs.Stops.{word, words}
 use Rattle.routes.specs.Raw.{moveBy, shiftIn, spliceIn, settleIn}
 use Rattle.routes.specs.Store.{Model, Holds, Wf, Low, Puttable, routeAt, rows, row, invalids, invalidIn, front, encode, putRoute}
 use Rattle.routes.specs.Spans.{Lies, Spans}

@@ -2,11 +2,8 @@
 use Prim.Native.Nat.{ℕ, _<_}
 use mathlib.Core.Path.{_≡_, sym, _∙_}
 use mathlib.Core.List.{List}
-use Rattle.rules.specs.Sizes.{Base}
 use Rattle.routes.specs.declared.rows.Done.{Done}
-use Rattle.routes.specs.declared.snap.Snap.{Snap}
 use Rattle.routes.specs.Store.{Model, Holds, Retracted}
-use Rattle.routes.specs.Snapped.{Stated, Snapped}
 
 -- a model is held by one list of words
 pub one-words : {l l′ : List ℕ} {m : Model} → Holds l m → Holds l′ m → l ≡ l′
@@ -15,13 +12,3 @@ one-words h k = h .words ∙ sym (k .words)
 module _ (l : List ℕ) (o : ℕ) (m : Model) (h : Holds l m) (low : o < 64) where
   pub retract-once : {l₁ l₂ : List ℕ} {d₁ d₂ : Done} → Retracted l o l₁ d₁ → Retracted l o l₂ d₂ → (d₁ ≡ d₂) × (l₁ ≡ l₂)
   retract-once a b = (a m h low .0 ∙ sym (b m h low .0), one-words (a m h low .1) (b m h low .1))
-
-module _ (n : ℕ) (entries expected : List ℕ) (o : ℕ) (out : List ℕ) (base : Base) (s : Stated n expected base) where
-  pub snapshot-counts : {out₁ out₂ : List ℕ} {r₁ r₂ : Snap} → Snapped n entries expected o out out₁ r₁ → Snapped n entries expected o out out₂ r₂
-      → (r₁ .valid ≡ r₂ .valid) × (r₁ .invalid ≡ r₂ .invalid) × (r₁ .violations ≡ r₂ .violations)
-  snapshot-counts a b =
-      (a .valid ∙ sym (b .valid), a .invalid ∙ sym (b .invalid), a .violations base s ∙ sym (b .violations base s))
-
-  pub snapshot-writes : {out₁ out₂ : List ℕ} {r₁ r₂ : Snap} → Snapped n entries expected o out out₁ r₁ → Snapped n entries expected o out out₂ r₂
-      → out₁ ≡ out₂
-  snapshot-writes a b = a .written ∙ sym (b .written)

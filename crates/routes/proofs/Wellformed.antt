@@ -13,18 +13,18 @@ use Rattle.rules.specs.Lists.{table, memb as isIn, Once, isZero, tick, count, s
 use Rattle.rules.specs.Sizes.{mostJobs, mostOwners, mostEntries, mostFixed}
 use Rattle.rules.specs.Routes.{Plan, Route, Stop, Heads, outs, holders, routeOf, emptyRoute, jobsOf, inForce, violationsOf}
 use Rattle.rules.specs.Scores.{assigned}
+use Rattle.rules.specs.Sound.{LowStops, Sound}
 use Rattle.rules.proofs.Ranges.{clash, same, lt-or-le, count-less, count-same, count-none}
 use Rattle.rules.proofs.Members.{or-true}
 use Rattle.rules.proofs.Tabled.{table-length, table-at, table-past, map-table}
-use Rattle.rules.proofs.Stages.{LowStops}
-use Rattle.rules.proofs.Puts.{Sound, live-inside}
+use Rattle.rules.proofs.Puts.{live-inside}
 use Rattle.rules.proofs.Bounds.{edgesOf as edgesIn, sum-places, edges-few}
 use Rattle.edges.specs.Rows.{flat}
 use Rattle.edges.specs.Edges.{Edge, Wf, encode as edgeWords, toOf, timesOf, hasEdge, memb, AllPos, Once as EdgesOnce}
-use Rattle.routes.specs.Stops.{word, words}
+use Rattle.exchanges.specs.Stops.{word, words}
 use Rattle.routes.specs.Store.{row, rows, Low, routeAt, encode, Wf as RoutesWf}
 use Rattle.routes.specs.Desks.{edgesFrom, edgesOf, routesOf, Desked}
-use Rattle.routes.proofs.OneRow.{memb-is}
+use Rattle.exchanges.proofs.OneRow.{memb-is}
 use Rattle.routes.proofs.Desking.{out-is, pre-is, past}
 
 -- ── a list without a job twice is as long as its jobs are many ──

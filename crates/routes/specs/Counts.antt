@@ -12,7 +12,7 @@ use Rattle.rules.specs.Routes.{Route, jobsOf}
 use Rattle.edges.specs.Raw.{mid, put}
 use Rattle.routes.specs.declared.rows.Done.{Done}
 use Rattle.routes.specs.declared.rows.Done.the-variants.{Fine, Bad}
-use Rattle.routes.specs.Stops.{words}
+use Rattle.exchanges.specs.Stops.{words}
 use Rattle.routes.specs.Store.{Model, Holds, Low, routeAt}
 
 -- more: one more, else one less

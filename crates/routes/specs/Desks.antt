@@ -6,7 +6,7 @@ use Rattle.rules.specs.Lists.{table}
 use Rattle.rules.specs.Sizes.{mostJobs, mostOwners}
 use Rattle.rules.specs.Routes.{Plan, routeOf, outs, holders, violationsOf}
 use Rattle.rules.specs.Scores.{assigned}
-use Rattle.rules.proofs.Puts.{Sound}
+use Rattle.rules.specs.Sound.{Sound}
 use Rattle.edges.specs.Edges.{Edge, Model as EdgeModel, Holds as EdgesHold}
 use Rattle.routes.specs.Store.{Model, Holds}
 

@@ -9,7 +9,7 @@ use Rattle.rules.specs.Routes.{Route, emptyRoute, jobsOf}
 use Rattle.edges.specs.Rows.{offs, flat, pad}
 use Rattle.routes.specs.declared.rows.Done.{Done}
 use Rattle.routes.specs.declared.rows.Done.the-variants.{Fine}
-use Rattle.routes.specs.Stops.{words}
+use Rattle.exchanges.specs.Stops.{words}
 
 -- of each owner the route in force and its violations, of each job how often it is in force, and who waits
 pub record Model : Type 0 where

@@ -7,10 +7,6 @@
 //   1729         how many owners wait
 //   1730..1794   waiting     in the order they began to wait, then zeros
 // Any contents are safe: what makes no sense is answered by `Bad`.
-pub mod ask;
 pub mod assigned;
-pub mod difference;
-pub mod exchange;
 pub mod rows;
-pub mod snap;
 pub mod wait;

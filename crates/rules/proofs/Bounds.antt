@@ -16,8 +16,8 @@ use Rattle.rules.specs.Routes.{live, outs, vanish, violates}
 use Rattle.rules.specs.Scores.{Within, assigned, assignment, assignmentPenalty, cyclePenalty, finish, floorOf, hardPenalty}
 use Rattle.rules.specs.Scores.{invalidEntries, invalidFixed, isCyclic, makespan, score, timesIn, violations, violationsFrom}
 use Rattle.rules.specs.Sizes.{Base, duration, longest, mostEntries, mostFixed, mostJobs, mostOwners, validFixed}
+use Rattle.rules.specs.Sound.{Sound}
 use Rattle.rules.proofs.Plans.{ranks-of, starts-greatest}
-use Rattle.rules.proofs.Puts.{Sound}
 use Rattle.rules.proofs.Ranges.{clash, greatest-lub, same}
 use Rattle.rules.proofs.Stages.{never}
 use Rattle.rules.proofs.Starts.{leads-rises}

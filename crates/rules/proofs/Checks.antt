@@ -22,13 +22,14 @@ use Rattle.rules.specs.Moves.{remove, slice, sublist-change, sublist-swa
 use Rattle.rules.specs.Routes.{Plan, Stop, invalidOf, jobsOf, links, linksOf, live, read, routeOf, stopsOf}
 use Rattle.rules.specs.Scores.{isCyclic, timesIn}
 use Rattle.rules.specs.Shown.{reach, trail}
+use Rattle.rules.specs.Sound.{Joined}
 use Rattle.rules.proofs.Bounds.{sum-const, sum-places}
 use Rattle.rules.proofs.Cycles.{reach-of, simple, trail-append, trail-least}
 use Rattle.rules.proofs.Members.{once-count, or-true}
 use Rattle.rules.proofs.Plans.{cyclic-cycle}
 use Rattle.rules.proofs.Ranges.{Test, and-true, below, clash, count-all, count-less, count-zero, fail, less-other, less-self}
 use Rattle.rules.proofs.Ranges.{nobody-false, nobody-true, pass, test}
-use Rattle.rules.proofs.Stages.{Joined, all-valid, stops-joined}
+use Rattle.rules.proofs.Stages.{all-valid, stops-joined}
 use Rattle.rules.proofs.Verdicts.{order-cycle}
 use Rattle.rules.proofs.Walks.{or-right}
 

@@ -11,10 +11,11 @@ use Rattle.rules.specs.Routes.{Plan, inForce, isHeld, live}
 use Rattle.rules.specs.Scores.{Within, cyclePenalty, finish, floorOf, isCyclic, makespan, score, starts}
 use Rattle.rules.specs.Shown.{shownCycle, shownLineUp}
 use Rattle.rules.specs.Sizes.{duration, longest, mostEntries, mostFixed, mostJobs}
+use Rattle.rules.specs.Sound.{Sound}
 use Rattle.rules.proofs.Bounds.{edges-few, edgesOf, makespan-few, score-within}
 use Rattle.rules.proofs.History.{Soundly, run-sound}
 use Rattle.rules.proofs.Plans.{cyclic-no-lineup, shown-cycle, shown-line-up, starts-greatest}
-use Rattle.rules.proofs.Puts.{Sound, live-held}
+use Rattle.rules.proofs.Puts.{live-held}
 use Rattle.rules.proofs.Ranges.{greatest-at, greatest-ub}
 
 -- "then a cycle is shown, the cycle penalty is the job count and the makespan 0"

@@ -19,11 +19,12 @@ use Rattle.rules.specs.Routes.{Heads, Plan, Route, State, adds, emptyRou
 use Rattle.rules.specs.Routes.{wait}
 use Rattle.rules.specs.Sizes.{Base, Loading, badFrom, baseOf, breaksSize, falls, fitsSizes, hasLong, isLong, isShort, longest}
 use Rattle.rules.specs.Sizes.{mostEntries, mostFixed, mostJobs, mostOwners, pairUp, validFixed}
+use Rattle.rules.specs.Sound.{Loaded, Sound, Inside, Kept, Tidy}
 use Rattle.rules.proofs.Members.{once-snoc, or-false}
-use Rattle.rules.proofs.Puts.{Loaded, Sound, put-sound}
+use Rattle.rules.proofs.Puts.{put-sound}
 use Rattle.rules.proofs.Ranges.{Test, and-true, clash, fail, pass, test}
-use Rattle.rules.proofs.Stages.{Inside, Kept, empty-read, inside-from, inside-turned, never, times-turned}
-use Rattle.rules.proofs.Stored.{From, Tidy, adds-at, adds-tidy}
+use Rattle.rules.proofs.Stages.{empty-read, inside-from, inside-turned, never, times-turned}
+use Rattle.rules.proofs.Stored.{From, adds-at, adds-tidy}
 use Rattle.rules.proofs.Walks.{memb-snoc}
 
 -- ── an accepted load ──

@@ -16,11 +16,10 @@ use Rattle.rules.specs.Lists.{least, memb}
 use Rattle.rules.specs.Routes.{Plan, live}
 use Rattle.rules.specs.Scores.{finish, floorOf, isCyclic, makespan, starts}
 use Rattle.rules.specs.Sizes.{duration}
+use Rattle.rules.specs.Solved.{Ranks, Solves}
 use Rattle.rules.proofs.Members.{or-true}
-use Rattle.rules.proofs.Orders.{Ranks}
 use Rattle.rules.proofs.Plans.{ranks-of, starts-solve}
 use Rattle.rules.proofs.Ranges.{Test, below, clash, fail, greatest-ub, lt-or-le, pass, test}
-use Rattle.rules.proofs.Starts.{Solves}
 use Rattle.rules.proofs.Walks.{or-right}
 
 -- ── the least of a number ──

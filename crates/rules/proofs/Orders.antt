@@ -15,6 +15,7 @@ use borrow.Author.Tests.{eq-eqb, ne-eqb}
 use Rattle.rules.specs.Graphs.{Lex, LineUp, LowestLineUp, lex-eq, lex-lt, lex-nil}
 use Rattle.rules.specs.Lists.{count, first, less}
 use Rattle.rules.specs.Shown.{lineup, order, place, ready}
+use Rattle.rules.specs.Solved.{Rises, Ranks, behind}
 use Rattle.rules.proofs.Ranges.{Found, Test, and-left, and-true, clash, count-all, count-le, count-less, count-none, count-some}
 use Rattle.rules.proofs.Ranges.{count-zero, fail, found, hit, less-other, less-true, miss, nobody-false, nobody-of, nobody-true}
 use Rattle.rules.proofs.Ranges.{pass, same, test}
@@ -118,10 +119,6 @@ module _ (n : ℕ) (E : ℕ → ℕ → Bool) where
           close U v u h hu d (met u hu eu)
           (λ m. follow k (less U u) u (let z = count-less n U u hu m in omega arith) hu eu (onward U v u h d met))
 
-  -- a number for each job that rises along each edge: what a line-up gives, and what leaves no cycle
-  abbrev pub Rises : (ℕ → ℕ) → Type 0
-  Rises r = (u v : ℕ) → u < n → v < n → E u v ≡ true → r u < r v
-
   lead-rises : (l : List ℕ) (R : ℕ → Bool) → Lead l R → (u v : ℕ) → u < n → v < n → R u ≡ true → R v ≡ true → E u v ≡ true
       → place-of l u < place-of l v
   lead-rises l R (led-none f) u v hu hv ru rv e = clash ru (f u hu)
@@ -135,11 +132,11 @@ module _ (n : ℕ) (E : ℕ → ℕ → Bool) where
       go (inr q) (inr s) ih = let z = ih (less-other R w u s ∙ ru) (less-other R w v q ∙ rv) in
           rw (ne-eqb v w q, ne-eqb u w s) (omega arith)
 
-  pub walk-rises : (r : ℕ → ℕ) → Rises r → {u v : ℕ} → u < n → v < n → Walk u v → r u < r v
+  pub walk-rises : (r : ℕ → ℕ) → Rises n E r → {u v : ℕ} → u < n → v < n → Walk u v → r u < r v
   walk-rises r f hu hv (one e) = f _ _ hu hv e
   walk-rises r f {u} {v} hu hv (more {v = w} hw e k) = let a = f u w hu hw e in let b = walk-rises r f hw hv k in omega arith
 
-  pub rises-no-circuit : (r : ℕ → ℕ) → Rises r → Circuit → ⊥
+  pub rises-no-circuit : (r : ℕ → ℕ) → Rises n E r → Circuit → ⊥
   rises-no-circuit r f (v, h, w) = let a = walk-rises r f h h w in omega arith
 
   -- a line-up: l lists the jobs of R, each once, and leads every edge between them forward
@@ -232,7 +229,7 @@ module _ (n : ℕ) (E : ℕ → ℕ → Bool) where
 
   -- what `order` answers: the lowest line-up of all jobs, with numbers that rise; or none, and there is a circuit
   pub data Verdict : Option (List ℕ) → Type 0 where
-    acyclic : (l : List ℕ) → LowestLineUp n E l → Rises (place-of l) → Verdict (some l)
+    acyclic : (l : List ℕ) → LowestLineUp n E l → Rises n E (place-of l) → Verdict (some l)
     cyclic : Circuit → Verdict none
 
   pub verdict : Verdict (order n E)
@@ -272,13 +269,7 @@ module _ (n : ℕ) (E : ℕ → ℕ → Bool) where
       let apart = less-true R v (getD l i 0) (lead-listed d .within i (omega arith) .1) .1 in
       rw (ne-eqb (getD l i 0) v apart) (ap suc (lead-place d i (omega arith)))
 
-  -- numbers that rise along each edge, and are 0 to n - 1, each once
-  pub record Ranks (r : ℕ → ℕ) : Type 0 where
-    pub rises : Rises r
-    pub top : (v : ℕ) → v < n → r v < n
-    pub hits : (k : ℕ) → k < n → (v : ℕ) × (v < n) × (r v ≡ k)
-
-  pub lineup-ranks : (l : List ℕ) → LineUp n E l → Ranks (place-of l)
+  pub lineup-ranks : (l : List ℕ) → LineUp n E l → Ranks n E (place-of l)
   lineup-ranks l L = record {
     rises = λ u v hu hv e. lead-rises l (λ v. true) d u v hu hv refl refl e;
     top = λ v h. let (i, a, b) = L .all v h in let z = rw b at (lead-place d i a) in omega (arith, lineup-length l L);
@@ -289,9 +280,6 @@ module _ (n : ℕ) (E : ℕ → ℕ → Bool) where
       d = lineup-led l L
 
 -- ── for a loop that places job after job ──
-
-abbrev pub behind : List ℕ → Option (List ℕ) → Option (List ℕ)
-behind l o = Option·map (λ (m : List ℕ). l ++ m) o
 
 pub behind-nil : (o : Option (List ℕ)) → behind [] o ≡ o
 behind-nil none = refl

@@ -14,9 +14,10 @@ use Rattle.rules.specs.Routes.{Plan, live}
 use Rattle.rules.specs.Scores.{floorOf, isCyclic, starts}
 use Rattle.rules.specs.Shown.{cycle, order, shownCycle, shownLineUp}
 use Rattle.rules.specs.Sizes.{duration}
-use Rattle.rules.proofs.Orders.{Ranks, Verdict, acyclic, cyclic, lineup-ranks, place-of, verdict}
+use Rattle.rules.specs.Solved.{Ranks, Solves}
+use Rattle.rules.proofs.Orders.{Verdict, acyclic, cyclic, lineup-ranks, place-of, verdict}
 use Rattle.rules.proofs.Ranges.{clash}
-use Rattle.rules.proofs.Starts.{Solves, solves-same, start-greatest, start-solves}
+use Rattle.rules.proofs.Starts.{solves-same, start-greatest, start-solves}
 use Rattle.rules.proofs.Verdicts.{Shown, line-up, loop, no-order, order-cycle, shown}
 
 -- ── the verdict ──

@@ -4,7 +4,7 @@ use Prim.Native.Nat.{ℕ, _+_, _≤_, _<_}
 use mathlib.Core.Path.{_≡_, refl, sym, _∙_}
 use mathlib.Core.Bool.{Bool, true, false, cond, _||_}
 use mathlib.Core.Logic.{_⊎_, ⊎-elim}
-use mathlib.Core.List.{List, [], _∷_, _++_, map}
+use mathlib.Core.List.{List, [], _∷_, _++_}
 use native.Mathlib.Omega.{arith}
 use lib.Dec.{eqb}
 use lib.ListN.{length, length-set}
@@ -13,32 +13,13 @@ use Rattle.rules.specs.Lists.{Once, Pair, isEmpty, memb}
 use Rattle.rules.specs.Reports.{seeds}
 use Rattle.rules.specs.Routes.{Emptied, Heads, Plan, emptied, empty, emptyRoute, exchange, holders, inForce, isHeld, live, outs}
 use Rattle.rules.specs.Routes.{ownStage, putPlan, read, staged, turned, without}
-use Rattle.rules.specs.Sizes.{Base, duration, falls, longest, mostEntries, mostFixed, mostJobs, mostOwners, validFixed}
+use Rattle.rules.specs.Sizes.{Base, mostEntries}
+use Rattle.rules.specs.Sound.{Inside, Kept, Read, Reads, Sound}
 use Rattle.rules.proofs.Members.{or-false}
 use Rattle.rules.proofs.Ranges.{clash}
-use Rattle.rules.proofs.Stages.{Inside, Kept, Read, Reads, empty-read, held-inside, inside-tips, read-read, reads-set}
+use Rattle.rules.proofs.Stages.{empty-read, held-inside, inside-tips, read-read, reads-set}
 use Rattle.rules.proofs.Stages.{staged-inside, staged-kept, staged-same, staged-tails, tips}
 use Rattle.rules.proofs.Walks.{or-right, single-in, single-once, single-out}
-
--- what an accepted load leaves of its arguments
-pub record Loaded (b : Base) : Type 0 where
-  pub jobs : b .jobs ≤ mostJobs
-  pub owners : b .owners ≤ mostOwners
-  pub fixed : length (b .fixed) ≤ mostFixed
-  pub durations : length (b .durations) ≡ b .jobs
-  pub short : (v : ℕ) → duration b v ≤ longest
-  pub inside : Inside (b .jobs) (validFixed b)
-  pub rising : falls 0 (map (λ (e : Pair). e .0) (b .fixed)) ≡ false
-
-pub record Sound (p : Plan) : Type 0 where
-  pub loaded : Loaded (p .base)
-  pub kept : Kept (p .base .jobs) (holders (p .base) (p .desk .routes)) (p .desk .heads)
-  pub kept-tails : Kept (p .base .jobs) (λ e. holders (p .base) (p .desk .routes) (turned e)) (p .desk .tails)
-  pub rows : length (p .desk .routes) ≡ p .base .owners
-  pub reads : Reads (p .base .jobs) (p .desk .routes)
-  pub room : inForce (p .desk .routes) ≤ mostEntries
-  pub waits : (w : ℕ) → memb w (p .desk .waiting) ≡ true → w < p .base .owners
-  pub once : Once (p .desk .waiting)
 
 -- live edges lead between jobs below n
 pub live-inside : (p : Plan) → Sound p → (u v : ℕ) → live p u v ≡ true → (u < p .base .jobs) × (v < p .base .jobs)

@@ -11,9 +11,10 @@ use Rattle.rules.specs.Reports.{putReport, putWalk, seeds, tri}
 use Rattle.rules.specs.Routes.{Plan, inForce, outs, putPlan}
 use Rattle.rules.specs.Scores.{floorOf, isCyclic, starts}
 use Rattle.rules.specs.Sizes.{duration, mostEntries}
+use Rattle.rules.specs.Sound.{Sound}
 use Rattle.rules.proofs.Cycles.{calm}
 use Rattle.rules.proofs.Plans.{ranks-of, starts-only, starts-solve}
-use Rattle.rules.proofs.Puts.{Sound, live-inside, put-sound, seeds-all, seeds-low, seeds-once}
+use Rattle.rules.proofs.Puts.{live-inside, put-sound, seeds-all, seeds-low, seeds-once}
 use Rattle.rules.proofs.Stages.{never}
 use Rattle.rules.proofs.Walks.{Mended, refreshes}
 

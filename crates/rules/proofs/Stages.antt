@@ -16,18 +16,15 @@ use Rattle.rules.specs.Reports.{headOf}
 use Rattle.rules.specs.Routes.{Heads, Route, Stop, emptyRoute, exchange, holders, invalidOf, links, linksOf, outs, read, relist}
 use Rattle.rules.specs.Routes.{staged, stopsOf, turned}
 use Rattle.rules.specs.Sizes.{Base, mostEntries, validFixed}
+use Rattle.rules.specs.Sound.{Inside, Kept, LowStops, Apart, Joined, Read, Reads}
 use Rattle.rules.proofs.Members.{or-false, or-true}
 use Rattle.rules.proofs.Ranges.{Test, and-true, clash, fail, pass, same, test}
-use Rattle.rules.proofs.Stored.{From, Tidy, adds-at, adds-tidy, drops-at, drops-tidy, same-pair}
+use Rattle.rules.proofs.Stored.{From, adds-at, adds-tidy, drops-at, drops-tidy, same-pair}
 
 pub never : {A : Type 0} → ⊥ → A
 never x = absurd x
 
 -- ── edges between jobs below n ──
-
-abbrev pub Inside : ℕ → List Pair → Type 0
-Inside n [] = Unit {0}
-Inside n (e ∷ l) = (e .0 < n) × (e .1 < n) × Inside n l
 
 pub inside-from : (n : ℕ) (l : List Pair) → Inside n l → From n l
 inside-from n [] h = tt
@@ -79,11 +76,6 @@ module _ {A : Type 0} (f : A → ℕ) (d : A) where
   sum-zero (r ∷ l) h = let a = h 0 in let b = sum-zero l (λ o. h (suc o)) in omega arith
 
 -- ── a stage ──
-
--- the lists of t are those of the counts c
-pub record Kept (n : ℕ) (c : Pair → ℕ) (t : Heads) : Type 0 where
-  pub tidy : Tidy n t
-  pub held : (u v : ℕ) → memb v (outs t u) ≡ not (isZero (c (u, v)))
 
 -- lists keep that, if the counts tell what happened
 pub relist-kept : (n : ℕ) (t : Heads) (before after : Pair → ℕ) (old new : List Pair) → From n old → From n new
@@ -160,11 +152,6 @@ relist-same n t t′ before after old new tells K L u v hc hw =
 
 -- ── routes ──
 
--- the jobs of a route's stops are below n
-abbrev pub LowStops : ℕ → List Stop → Type 0
-LowStops n [] = Unit {0}
-LowStops n (s ∷ l) = (s .0 < n) × LowStops n l
-
 pub links-inside : (n : ℕ) (l : List Stop) → LowStops n l → Inside n (links l)
 links-inside n [] h = tt
 links-inside n (a ∷ []) h = tt
@@ -173,24 +160,6 @@ links-inside n (a ∷ b ∷ l) (x, (y, h)) = go (b .1) (links-inside n (b ∷ l)
     go : (k : Bool) → Inside n (links (b ∷ l)) → Inside n (cond k ((a .0, b .0) ∷ links (b ∷ l)) (links (b ∷ l)))
     go true i = (x, y, i)
     go false i = i
-
--- the first stop is joined to none
-abbrev pub Apart : List Stop → Type 0
-Apart [] = Unit {0}
-Apart (s ∷ l) = s .1 ≡ false
-
--- every stop but the first is joined to the one before it
-abbrev pub Joined : List Stop → Type 0
-Joined [] = Unit {0}
-Joined (a ∷ []) = Unit {0}
-Joined (a ∷ b ∷ l) = (b .1 ≡ true) × Joined (b ∷ l)
-
--- a route in force of a plan of n jobs
-pub record Read (n : ℕ) (r : Route) : Type 0 where
-  pub low : LowStops n (r .stops)
-  pub apart : Apart (r .stops)
-  pub joined : r .invalid ≡ 0 → Joined (r .stops)
-  pub few : length (r .stops) + r .invalid ≤ mostEntries
 
 pub empty-read : (n : ℕ) → Read n emptyRoute
 empty-read n = record { low = tt; apart = tt; joined = λ z. tt; few = omega arith }
@@ -244,10 +213,6 @@ read-read n l h = record {
   joined = stops-joined n false l;
   few = let a = stops-count n false l in omega arith;
 }
-
--- the routes l, each of which can be in force
-abbrev pub Reads : ℕ → List Route → Type 0
-Reads n l = (o : ℕ) → Read n (getD l o emptyRoute)
 
 pub reads-set : (n : ℕ) (l : List Route) (o : ℕ) (r : Route) → Reads n l → Read n r → o < length l → Reads n (set l o r)
 reads-set n l o r R h k w = go (same w o)

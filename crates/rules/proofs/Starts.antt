@@ -10,7 +10,7 @@ use native.Mathlib.Nat.{not-suc-le-zero, mul-le-mul-right}
 use Rattle.rules.specs.Graphs.{Graph, GreatestSum, Leads, along, here}
 use Rattle.rules.specs.Lists.{greatest}
 use Rattle.rules.specs.Scores.{best, start}
-use Rattle.rules.proofs.Orders.{Rises}
+use Rattle.rules.specs.Solved.{Rises, Solves}
 use Rattle.rules.proofs.Ranges.{greatest-at, greatest-lub, greatest-same, greatest-tests, greatest-ub, lt-or-le}
 
 -- starts that agree at v's predecessors ask the same of v
@@ -24,10 +24,6 @@ pub best-edges : (n : ℕ) (E F : Graph) (f d s : ℕ → ℕ) (v : ℕ) → ((u
 best-edges n E F f d s v h = ap (max (f v)) (greatest-tests n (λ u. E u v) (λ u. F u v) (λ u. s u + d u) h)
 
 module _ (n : ℕ) (E : Graph) (f d : ℕ → ℕ) where
-  -- s are starts that the equations hold of
-  abbrev pub Solves : (ℕ → ℕ) → Type 0
-  Solves s = (v : ℕ) → v < n → s v ≡ best n E f d s v
-
   pub start-ub : {k v x : ℕ} (m : ℕ) → k ≤ m → Leads n E f d k v x → x ≤ start n E f d m v
   start-ub zero h here = omega arith
   start-ub (suc m) h here = omega arith
@@ -67,7 +63,7 @@ module _ (n : ℕ) (E : Graph) (f d : ℕ → ℕ) where
         let b = start-ub (suc m) (omega arith) q in
         omega arith
 
-    pub start-solves : (m : ℕ) → ((v : ℕ) → v < n → r v ≤ m) → Solves (start n E f d m)
+    pub start-solves : (m : ℕ) → ((v : ℕ) → v < n → r v ≤ m) → Solves n E f d (start n E f d m)
     start-solves m low v h = start-stays m v h (low v h)
 
     -- the greatest of all paths
@@ -78,7 +74,7 @@ module _ (n : ℕ) (E : Graph) (f d : ℕ → ℕ) where
     }
 
     -- two solutions are one
-    pub solves-same : (s t : ℕ → ℕ) → Solves s → Solves t → (v : ℕ) → v < n → s v ≡ t v
+    pub solves-same : (s t : ℕ → ℕ) → Solves n E f d s → Solves n E f d t → (v : ℕ) → v < n → s v ≡ t v
     solves-same s t p q v h = go (suc (r v)) v h (omega arith)
       where
         go : (k v : ℕ) → v < n → r v < k → s v ≡ t v

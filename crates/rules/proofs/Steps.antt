@@ -14,32 +14,19 @@ use borrow.Author.Tests.{eq-eqb, eqb-true, eqb-false}
 use Rattle.rules.specs.Calls.{reads}
 use Rattle.rules.specs.Lists.{Once, Pair, isZero, keep, memb, samePair, sumOf, times}
 use Rattle.rules.specs.Reports.{push}
-use Rattle.rules.specs.Routes.{Emptied, Plan, Route, Stage, emptied, empty, emptyRoute, exchange, holders, inForce, linksOf, live}
+use Rattle.rules.specs.Routes.{Emptied, Plan, Route, emptied, empty, emptyRoute, exchange, holders, inForce, linksOf, live}
 use Rattle.rules.specs.Routes.{ownStage, putPlan, read, routeOf, staged, without}
 use Rattle.rules.specs.Sizes.{Base, mostEntries}
+use Rattle.rules.specs.Sound.{Sound, Read}
+use Rattle.rules.specs.Steps.{staging, turning, amid, begun, unwaited}
 use Rattle.rules.proofs.Members.{memb-append, or-false, or-true}
-use Rattle.rules.proofs.Puts.{Along, Sound, emptied-along}
+use Rattle.rules.proofs.Puts.{Along, emptied-along}
 use Rattle.rules.proofs.Ranges.{Test, clash, fail, pass, test}
-use Rattle.rules.proofs.Stages.{Read, read-read, reads-set, staged-kept, staged-tails, sum-set, tells}
+use Rattle.rules.proofs.Stages.{read-read, reads-set, staged-kept, staged-tails, sum-set, tells}
 use Rattle.rules.proofs.Stored.{same-pair}
 use Rattle.rules.proofs.Walks.{or-right}
 
 -- ── one stage ──
-
--- owner o's route becomes r; who waits stays
-unfoldable pub staging : Plan → ℕ → Route → Stage
-staging p o r = staged (p .base) (p .desk .routes) (p .desk .heads) (p .desk .tails) o r
-
-unfoldable pub turning : Plan → ℕ → Route → Plan
-turning p o r = record {
-  base = p .base;
-  desk = record {
-    routes = set (p .desk .routes) o r;
-    waiting = p .desk .waiting;
-    heads = staging p o r .heads;
-    tails = staging p o r .tails;
-  };
-}
 
 pub turning-sound : (p : Plan) (o : ℕ) (r : Route) → Sound p → o < p .base .owners → Read (p .base .jobs) r
     → inForce (set (p .desk .routes) o r) ≤ mostEntries → Sound (turning p o r)
@@ -63,17 +50,6 @@ pub given-up : (l : List Route) (w : ℕ) → w < length l → inForce (set l w 
 given-up l w h = let a = sum-set (λ (r : Route). length (r .stops)) emptyRoute l w emptyRoute h in omega arith
 
 -- ── the waiting owners ──
-
--- the plan once some waiting owners are emptied
-abbrev pub amid : Plan → Emptied → Plan
-amid p x = record {
-  base = p .base;
-  desk = record { routes = x .routes; waiting = p .desk .waiting; heads = x .heads; tails = x .tails };
-}
-
--- before any is
-abbrev pub begun : Plan → Emptied
-begun p = record { routes = p .desk .routes; heads = p .desk .heads; tails = p .desk .tails; went = [] }
 
 pub without-turns : (p : Plan) (w : ℕ) (x : Emptied) → amid p (without (p .base) w x) ≡ turning (amid p x) w emptyRoute
 unfolding without turning staging
@@ -99,12 +75,6 @@ unfolding emptied
 emptied-all p o = refl
 
 -- ── the put ──
-
-abbrev pub unwaited : Plan → Plan
-unwaited p = record {
-  base = p .base;
-  desk = record { routes = p .desk .routes; waiting = []; heads = p .desk .heads; tails = p .desk .tails };
-}
 
 pub put-turns : (p : Plan) (o : ℕ) (l : List ℕ) → putPlan p o l ≡ unwaited (turning (amid p (emptied p o)) o (read (p .base .jobs) l))
 unfolding putPlan ownStage turning staging

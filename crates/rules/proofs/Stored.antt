@@ -6,11 +6,12 @@ use mathlib.Core.Logic.{_⊎_, inl, inr}
 use mathlib.Core.List.{List, [], _∷_, _++_}
 use native.Mathlib.Omega.{arith}
 use lib.Dec.{eqb}
-use lib.ListN.{length, length-set}
+use lib.ListN.{length-set}
 use lib.Seq.{getD-set-same, getD-set-other}
 use borrow.Author.Tests.{eq-eqb, ne-eqb, eqb-true}
 use Rattle.rules.specs.Lists.{Once, Pair, isZero, memb, samePair, tick, times}
 use Rattle.rules.specs.Routes.{Heads, adds, alter, appear, butLast, drops, each, lastFirst, lastOf, outs, vanish}
+use Rattle.rules.specs.Sound.{Tidy}
 use Rattle.rules.proofs.Members.{memb-append, once-snoc, or-false}
 use Rattle.rules.proofs.Ranges.{Test, and-true, clash, fail, pass, same, test}
 
@@ -96,11 +97,6 @@ appear-once v l o = go (test (memb v l))
 
 pub same-pair : {u v : ℕ} {e : Pair} → samePair (u, v) e ≡ true → _≡_ {A = Pair} (u, v) e
 same-pair {u} {v} {e} h = let (a, b) = and-true {a = eqb u (e .0)} h in λ i. (eqb-true u (e .0) a i, eqb-true v (e .1) b i)
-
--- n lists, none with a job twice
-pub record Tidy (n : ℕ) (t : Heads) : Type 0 where
-  pub size : length t ≡ n
-  pub once : (u : ℕ) → Once (outs t u)
 
 -- edges from jobs below n
 abbrev pub From : ℕ → List Pair → Type 0

@@ -16,10 +16,10 @@ use Rattle.rules.specs.Lists.{Once, count, less, memb, tick}
 use Rattle.rules.specs.Reports.{Outcome, bump, push, tri, upd, walk}
 use Rattle.rules.specs.Routes.{edge}
 use Rattle.rules.specs.Scores.{best}
+use Rattle.rules.specs.Solved.{Ranks, Solves}
 use Rattle.rules.proofs.Members.{memb-append, once-count, once-snoc, or-false, or-true}
-use Rattle.rules.proofs.Orders.{Ranks}
 use Rattle.rules.proofs.Ranges.{Test, clash, count-le, count-less, fail, less-other, lt-or-le, pass, same, test}
-use Rattle.rules.proofs.Starts.{Solves, best-edges, best-same}
+use Rattle.rules.proofs.Starts.{best-edges, best-same}
 
 -- v joins `nxt`, what is queued behind `cur`, the rest of this round
 abbrev pub join : List ℕ → List ℕ → ℕ → Bool → List ℕ

@@ -1,4 +1,5 @@
--- Document 01 as definitions, in its order: first the words that all of it uses, then a file for each section, last the calls.
+-- Document 01 as definitions, in its order: first the words that all of it uses, then a file for each section, then the calls.
+-- Solved, Sound and Steps are not of the document: other crates promise by them what lies between two calls.
 -- A definition stands under the sentence that it states. What is proved of them is in proofs/.
 pub mod Lists
 pub mod Graphs
@@ -11,3 +12,6 @@ pub mod Reports
 pub mod Blocks
 pub mod Moves
 pub mod Calls
+pub mod Solved
+pub mod Sound
+pub mod Steps

@@ -2,4 +2,5 @@
 pub mod Lengths
 pub mod Pieces
 pub mod Turns
+pub mod Rows
 pub mod Unique

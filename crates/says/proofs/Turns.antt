@@ -1,15 +1,13 @@
 -- Pieces written in turn: what is still to write, behind what is written, gives the whole. Assumes nothing.
-use Prim.Native.Nat.{ℕ, suc, _+_, _*_, _≤_, _<_}
+use Prim.Native.Nat.{ℕ, suc, _+_, _≤_, _<_}
 use native.Mathlib.Nat.{add-zero}
 use native.Mathlib.Omega.{arith}
 use native.Mathlib.Numerals.{add-one}
 use mathlib.Core.Path.{_≡_, refl, _∙_}
 use mathlib.Core.List.{List, [], _∷_, _++_}
-use lib.ListN.{length, getD, set, take, drop, drop-of-length-le}
-use lib.Seq.{slice, slice-cons, slice-empty, drop-cons}
-use Rattle.text.specs.Grammar.{digitsOf, fieldsOf}
+use lib.ListN.{length, getD, set, drop, drop-of-length-le}
+use lib.Seq.{drop-cons}
 use Rattle.text.specs.Writes.{Wrote}
-use Rattle.says.specs.Prints.{Prints}
 use Rattle.says.proofs.Pieces.{wrote-none, wrote-behind, wrote-length}
 
 -- the rest, written from place p on, leaves the whole at its place
@@ -45,30 +43,3 @@ module _ {s out₀ : List ℕ} {at : ℕ} {out : List ℕ} {i : ℕ} (C : Copyin
 
   pub copy-done : length s ≤ i → Wrote out₀ at s (at + i) out
   copy-done h = turning-done (rw (drop-of-length-le s h) at (C .turning))
-
--- ── numbers of a list up to n, of which i are written ──
-
-pub record Listing (list : List ℕ) (n : ℕ) (out₀ : List ℕ) (at : ℕ) (out : List ℕ) (p i : ℕ) : Type 0 where
-  pub to : i ≤ n
-  pub few : p ≤ at + 21 * i
-  pub turning : Turning (fieldsOf (take n list)) out₀ at (fieldsOf (slice i n list)) out p
-
-pub list-start : (list : List ℕ) (n : ℕ) (out : List ℕ) (at : ℕ) → Listing list n out at out at 0
-list-start list n out at = record { to = omega arith; few = omega arith; turning = turning-start _ out at }
-
-module _ {list : List ℕ} {n : ℕ} {out₀ : List ℕ} {at : ℕ} {out : List ℕ} {p i : ℕ} (L : Listing list n out₀ at out p i) where
-  pub list-turn : {x q : ℕ} {o : List ℕ} → i < n → n ≤ length list → x ≡ getD list i 0 → Prints out p (32 ∷ digitsOf x) 21 q o
-      → Listing list n out₀ at o q (i + 1)
-  list-turn {x} h l e P =
-      let f = P .few in
-      let g = L .few in
-      let T : Turning (fieldsOf (take n list)) out₀ at (fieldsOf (x ∷ slice (suc i) n list)) out p =
-      rw (slice-cons i n list 0 h l, ← e) at (L .turning) in
-      record { to = omega arith; few = omega arith; turning = rw add-one (turning-by T (P .wrote)) }
-
-  pub list-done : n ≤ i → Prints out₀ at (fieldsOf (take n list)) (21 * n) p out
-  list-done h =
-      let j = L .to in
-      let f = L .few in
-      let e : i ≡ n = omega arith in
-      record { wrote = turning-done (rw (e, slice-empty n list) at (L .turning)); few = omega arith }

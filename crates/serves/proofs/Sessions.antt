@@ -31,7 +31,8 @@ use Rattle.refresh.proofs.Lengths.{base-long, spans-long, edges-long, routes-lo
 use Rattle.text.specs.declared.words.Word.{Word}
 use Rattle.text.specs.Writes.{Wrote}
 use Rattle.opens.specs.Opens.{fitted, Typing}
-use Rattle.serves.specs.Serves.{loadingOf, Asks, puts, cuts, shows, crits, asked, textTo, Fitting, Last}
+use Rattle.serves.specs.Serves.{loadingOf, Asks, puts, cuts, shows, crits, Fitting, Last}
+use Rattle.crits.specs.Answers.{asked, textTo}
 use Rattle.serves.specs.Session.{whole, Serves, ends, unfit, line}
 use Rattle.serves.specs.Runs.{Runs, done, turn}
 

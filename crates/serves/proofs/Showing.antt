@@ -17,9 +17,9 @@ use Rattle.stores.specs.Says.{saysStarted, saysCounted}
 use Rattle.refresh.specs.Shows.{saysVerdict}
 use Rattle.says.specs.Prints.{Prints, lineOf, orderWord, scoreWord, scoreLine, noLine, replyText}
 use Rattle.says.proofs.Pieces.{wrote-behind}
-use Rattle.serves.specs.Serves.{Answers, verdictText}
+use Rattle.crits.specs.Answers.{Answers, verdictText}
 use Rattle.serves.specs.Parts.{ShowsStarts, ShowsVerdict}
-use Rattle.serves.proofs.Replies.{startsIn, starts-is, verdictIn, verdict-is}
+use Rattle.crits.proofs.Replies.{startsIn, starts-is, verdictIn, verdict-is}
 
 module _ {s : Slices} {out : List ℕ} {m p : ℕ} {out′ : List ℕ} where
   -- a call with a list of 512 places answered r, which was found to be q

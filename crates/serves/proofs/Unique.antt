@@ -2,18 +2,18 @@
 use Prim.Native.Nat.{ℕ}
 use native.Mathlib.Omega.{arith}
 use mathlib.Core.Path.{_≡_, refl, sym, ap, _∙_}
-use mathlib.Core.List.{List, []}
+use mathlib.Core.List.{List}
 use Rattle.rules.specs.Routes.{State}
 use Rattle.rules.specs.Calls.{Ask}
 use Rattle.text.specs.declared.words.Word.{Word}
 use Rattle.text.specs.Writes.{Wrote}
 use Rattle.stores.specs.Promise.{Slices, StandsFor}
 use Rattle.says.specs.Prints.{badLine}
-use Rattle.opens.specs.Lines.{Leads}
-use Rattle.opens.proofs.Spelling.{leads-same, leads-some}
+use Rattle.opens.proofs.Spelling.{leads-same, empty-leads}
 use Rattle.opens.proofs.Unique.{opens-same}
-use Rattle.serves.specs.Serves.{Asks, puts, cuts, shows, crits, Answers}
-use Rattle.serves.specs.Session.{Serves, Prints, ends, unfit, line, long, goes}
+use Rattle.serves.specs.Serves.{Asks, puts, cuts, shows, crits}
+use Rattle.crits.specs.Answers.{Answers}
+use Rattle.serves.specs.Session.{Serves, RunPrints, ends, unfit, line, long, goes}
 
 -- ── an answer ──
 
@@ -38,18 +38,14 @@ asks-same cuts cuts = refl
 asks-same shows shows = refl
 asks-same crits crits = refl
 
--- an empty rest leads no line
-empty : {A : Type 0} {w : Word} {ns r : List ℕ} → Leads [] w ns r → A
-empty L = let h = leads-some L in absurd (omega arith)
-
 pub serves-same : {o : ℕ} {t : State} {n : ℕ} {rest x y : List ℕ} → Serves o t n rest x → Serves o t n rest y → x ≡ y
 serves-same ends ends = refl
 serves-same ends (unfit h M) = absurd (omega arith)
-serves-same ends (line L A P) = empty L
+serves-same ends (line L A P) = empty-leads L
 serves-same (unfit h M) ends = absurd (omega arith)
 serves-same (unfit h M) (unfit i N) = refl
 serves-same (unfit h M) (line L A P) = absurd (M _ _ _ _ L A)
-serves-same (line L A P) ends = empty L
+serves-same (line L A P) ends = empty-leads L
 serves-same (line L A P) (unfit h M) = absurd (M _ _ _ _ L A)
 serves-same (line L A P) (line M B Q) =
     let (e, f, g) = leads-same L M in
@@ -62,7 +58,7 @@ serves-same (line L A P) (line M B Q) =
 apart : {A : Type 0} → _≡_ {A = ℕ} 0 1 → A
 apart z = absurd (omega arith)
 
-pub prints-same : {input x y : List ℕ} → Prints input x → Prints input y → x ≡ y
+pub prints-same : {input x y : List ℕ} → RunPrints input x → RunPrints input y → x ≡ y
 prints-same (long h) (long i) = refl
 prints-same (long h) (unfit i O) = absurd (omega arith)
 prints-same (long h) (ends i O) = absurd (omega arith)

@@ -11,8 +11,9 @@ use Rattle.stores.specs.Promise.{Slices, lentOf, callOf, StandsFor, AnyPromise}
 use Rattle.stores.specs.Says.{saysScored}
 use Rattle.says.specs.Prints.{replyText}
 use Rattle.opens.specs.Opens.{fitted, Typing, OpensAll, opened}
-use Rattle.serves.specs.Serves.{asked, loadingOf}
-use Rattle.serves.specs.Session.{whole, Serves, Prints, goes}
+use Rattle.crits.specs.Answers.{asked}
+use Rattle.serves.specs.Serves.{loadingOf}
+use Rattle.serves.specs.Session.{whole, Serves, RunPrints, goes}
 use Rattle.serves.specs.Runs.{Runs}
 use Rattle.serves.proofs.Sessions.{after-stands, after-long, runs-serves}
 
@@ -20,7 +21,7 @@ use Rattle.serves.proofs.Sessions.{after-stands, after-long, runs-serve
 -- `go` are answered turn after turn (`answer_line`)
 pub run-prints : {input rest out text : List ℕ} {t : Typing} {n : ℕ} {s s′ : Slices} (x : Scored) → length input ≤ 32768
     → OpensAll input (opened t rest n) → getD (s .base) 0 0 ≡ 0 → lentOf s ≡ whole → AnyPromise (to-load (loadingOf t)) s s′ (saysScored x)
-    → Runs rest (fitted (t .owners)) 0 n s′ out text → Prints input (replyText (saysScored x) ++ text)
+    → Runs rest (fitted (t .owners)) 0 n s′ out text → RunPrints input (replyText (saysScored x) ++ text)
 run-prints {input} {rest} {out} {text} {t} {n} {s} {s′} x h O z k P R =
     let a = to-load (loadingOf t) in
     let d = P .decides none in

@@ -2,20 +2,17 @@
 use Prim.Native.Nat.{ℕ, _+_, _≤_}
 use mathlib.Core.Path.{_≡_}
 use mathlib.Core.List.{List}
-use lib.ListN.{length}
-use Rattle.rules.specs.declared.Block.{Block}
 use Rattle.rules.specs.Routes.{State}
 use Rattle.rules.specs.Calls.{Ask, to-verdict, to-starts, reply}
 use Rattle.text.specs.declared.words.Word.{Word}
 use Rattle.text.specs.Writes.{Wrote}
 use Rattle.stores.specs.Promise.{Slices, callOf, StandsFor}
-use Rattle.blocks.specs.Promise.{BlocksPromise, saysBlocked}
 use Rattle.says.specs.Prints.{replyText}
 use Rattle.opens.specs.Lines.{Spelt}
 use Rattle.serves.specs.declared.calls.Called.{Called}
 use Rattle.serves.specs.declared.calls.Called.the-variants.{Next, Bad}
-use Rattle.serves.specs.declared.critical.Found.{Found}
-use Rattle.serves.specs.Serves.{Asks, Answers, verdictText}
+use Rattle.serves.specs.Serves.{Asks}
+use Rattle.crits.specs.Answers.{Answers, verdictText}
 
 -- ── `show` ──
 
@@ -29,15 +26,6 @@ pub record ShowsVerdict (s : Slices) (out : List ℕ) (at r : ℕ) (out′ : Lis
   pub few : r ≤ at + 21517
   pub is : (t : State) → StandsFor s t
       → Wrote out at (verdictText (reply t (callOf (to-verdict 512) s)) (reply t (callOf (to-starts 512) s))) r out′
-
--- ── `crit` ──
-
--- the blocks' own promise, of a list of 1,024 places
-pub record Finds (os : List ℕ) (s : Slices) (f : Found) : Type 0 where
-  pub before : List Block
-  pub room : length before ≡ 1024
-  pub long : length (f .list) ≡ 1024
-  pub keeps : BlocksPromise os s s before (f .list) (saysBlocked (f .list) (f .answer))
 
 -- ── by the word, and by the line ──
 

@@ -11,7 +11,8 @@ use Rattle.stores.specs.Headers.{lens}
 use Rattle.says.specs.Prints.{replyText, badLine}
 use Rattle.opens.specs.Lines.{Leads}
 use Rattle.opens.specs.Opens.{fitted, Typing, OpensAll, opened, bad, nothing}
-use Rattle.serves.specs.Serves.{Asks, Unasked, asked, textTo, loadingOf}
+use Rattle.serves.specs.Serves.{Asks, Unasked, loadingOf}
+use Rattle.crits.specs.Answers.{asked, textTo}
 
 -- the program's store: every slice is as long as its constant
 abbrev pub whole : Lent
@@ -25,12 +26,12 @@ pub data Serves (o : ℕ) : State → ℕ → List ℕ → List ℕ → Type 0 w
       → Serves o (step t (asked whole a) .state) (suc n) rest′ text → Serves o t n rest (textTo whole t a ++ text)
 
 -- "reads standard input, at most 32,768 bytes"
-pub data Prints (input : List ℕ) : List ℕ → Type 0 where
+pub data RunPrints (input : List ℕ) : List ℕ → Type 0 where
   -- "input over the byte limit prints only `bad 0`"
-  long : 32768 < length input → Prints input (badLine 0)
-  unfit : {k : ℕ} → length input ≤ 32768 → OpensAll input (bad k) → Prints input (badLine k)
-  ends : length input ≤ 32768 → OpensAll input nothing → Prints input []
+  long : 32768 < length input → RunPrints input (badLine 0)
+  unfit : {k : ℕ} → length input ≤ 32768 → OpensAll input (bad k) → RunPrints input (badLine k)
+  ends : length input ≤ 32768 → OpensAll input nothing → RunPrints input []
   -- "a refused `go` leaves the store unloaded"
   goes : {t : Typing} {n : ℕ} {rest text : List ℕ} → length input ≤ 32768 → OpensAll input (opened t rest n)
       → Serves (fitted (t .owners)) (step none (asked whole (to-load (loadingOf t))) .state) n rest text
-      → Prints input (replyText (reply none (asked whole (to-load (loadingOf t)))) ++ text)
+      → RunPrints input (replyText (reply none (asked whole (to-load (loadingOf t)))) ++ text)

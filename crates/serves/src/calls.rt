@@ -1,6 +1,6 @@
 // `put`, `cut`, `show` and `crit`.
-use crate::critical::crit;
 use crate::shows::show;
+use crits::critical::crit;
 use refresh::put::Changed;
 use rules::Owner;
 use rules::Score;
@@ -20,7 +20,7 @@ ghost use Rattle.rules.specs.Calls.{to-put, to-retract};
 ghost use Rattle.text.specs.Grammar.{fitsOf};
 ghost use Rattle.stores.specs.Promise.{slices};
 ghost use Rattle.opens.specs.Opens.{fitted};
-ghost use Rattle.serves.specs.Serves.{Answers};
+ghost use Rattle.crits.specs.Answers.{Answers};
 ghost use Rattle.serves.specs.Parts.{Calls};
 
 // What a line comes to: how many bytes it answers.

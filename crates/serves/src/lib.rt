@@ -1,6 +1,5 @@
 // The lines behind `go`: each is a call of the library, and answers.
 pub mod calls;
-pub mod critical;
 pub mod goes;
 pub mod shows;
 pub mod turns;

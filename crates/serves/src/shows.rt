@@ -10,7 +10,7 @@ ghost use Prim.Native.Nat.{_+_, _≤_};
 ghost use lib.ListN.{length};
 ghost use Rattle.rules.specs.Calls.{to-score};
 ghost use Rattle.stores.specs.Promise.{slices};
-ghost use Rattle.serves.specs.Serves.{Answers};
+ghost use Rattle.crits.specs.Answers.{Answers};
 ghost use Rattle.serves.specs.Parts.{ShowsStarts, ShowsVerdict};
 
 // The line of the starts.

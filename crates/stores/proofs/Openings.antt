@@ -15,12 +15,12 @@ use Rattle.rules.specs.declared.Refusal.the-variants.{NotLoaded, BadStore, Shor
 use Rattle.rules.specs.Sizes.{Base, Lent, isShort, fitsSizes}
 use Rattle.rules.specs.Routes.{Plan}
 use Rattle.rules.specs.Scores.{invalidFixed}
+use Rattle.rules.specs.Sound.{Loaded}
 use Rattle.rules.proofs.Members.{or-false}
 use Rattle.rules.proofs.Ranges.{Test, pass, fail, test, and-true}
-use Rattle.rules.proofs.Puts.{Loaded}
 use Rattle.stores.specs.declared.header.Header.the-variants.{Is, Refused}
 use Rattle.stores.specs.Words.{baseWords}
-use Rattle.stores.specs.Headers.{planAt, headerOf, openOf}
+use Rattle.stores.specs.Headers.{countsOf, planAt, headerOf, openOf}
 use Rattle.stores.specs.Promise.{Slices, lentOf, Held, Stands}
 
 unlike : {r : Refusal} {c : Counts} → Refused r ≡ Is c → ⊥
@@ -143,10 +143,6 @@ headed-by b l m e = record {
 pub base-headed : (b : Base) (l : List ℕ) → take 6661 l ≡ baseWords b → Headed l b
 unfolding baseWords
 base-headed b l e = headed-by b l _ e
-
--- the counts of a plan
-abbrev pub countsOf : Base → Counts
-countsOf b = record { jobs = b .jobs; owners = b .owners; fixed = length (b .fixed) }
 
 fits-loaded : (b : Base) → Loaded b → fitsSizes (b .jobs) (b .owners) (length (b .fixed)) ≡ true
 fits-loaded b L = rw (le-ltb 512 (b .jobs) (L .jobs), le-ltb 64 (b .owners) (L .owners), le-ltb 3072 (length (b .fixed)) (L .fixed))

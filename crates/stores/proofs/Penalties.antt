@@ -9,9 +9,9 @@ use Rattle.rules.specs.Lists.{table, sumOf}
 use Rattle.rules.specs.Sizes.{mostJobs, mostOwners}
 use Rattle.rules.specs.Routes.{Plan, Route, emptyRoute, routeOf, violationsOf}
 use Rattle.rules.specs.Scores.{assigned, assignment, assignmentPenalty, invalidEntries, violations}
+use Rattle.rules.specs.Sound.{Sound}
 use Rattle.rules.proofs.Bounds.{sum-places}
 use Rattle.rules.proofs.Checks.{sum-append, sum-map, sum-same}
-use Rattle.rules.proofs.Puts.{Sound}
 use Rattle.edges.specs.Rows.{offs, flat, pad}
 use Rattle.edges.proofs.Rows.{offs-length, pad-length}
 use Rattle.routes.specs.Store.{Model, Wf, front, encode, rows, row, invalidIn, invalids}

@@ -21,12 +21,11 @@ use Rattle.stores.specs.declared.header.Header.{Header}
 use Rattle.stores.specs.declared.header.Header.the-variants.{Is as Headed, Refused as Unopened}
 use Rattle.stores.specs.declared.score.Scored.{Scored}
 use Rattle.stores.specs.declared.score.Scored.the-variants.{Is, Refused}
-use Rattle.stores.specs.Headers.{openOf}
+use Rattle.stores.specs.Headers.{openOf, countsOf}
 use Rattle.stores.specs.Promise.{Slices, lentOf, Held, Decided, Promise, Reads}
 use Rattle.stores.specs.Sums.{scoredAt}
 use Rattle.stores.specs.Says.{places}
 use Rattle.times.specs.Words.{timeWords, startOf}
-use Rattle.stores.proofs.Openings.{countsOf}
 use Rattle.stores.proofs.Promises.{closed-kept, opened-kept, decided-refused, decided-read, refusal-long}
 use Rattle.stores.proofs.Scores.{scored-held}
 use Rattle.stores.proofs.Tabled.{table-length, table-take, table-same, taken-sets, part-slice, places-take}

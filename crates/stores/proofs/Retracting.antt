@@ -26,9 +26,8 @@ use Rattle.times.proofs.Timing.{same-words}
 use Rattle.stores.specs.declared.header.Header.{Header}
 use Rattle.stores.specs.declared.header.Header.the-variants.{Is as Headed, Refused as Unopened}
 use Rattle.stores.specs.Words.{baseWords}
-use Rattle.stores.specs.Headers.{openOf}
+use Rattle.stores.specs.Headers.{openOf, countsOf}
 use Rattle.stores.specs.Promise.{Slices, slices, lentOf, Held, holding, Decided, Promise}
-use Rattle.stores.proofs.Openings.{countsOf}
 use Rattle.stores.proofs.Promises.{closed-kept, opened-kept, decided-refused, decided-written, refusal-long}
 use Rattle.stores.proofs.Promises.{front-back, holding-is}
 

@@ -3,7 +3,7 @@ use crate::header::Header;
 use crate::header::broad;
 use crate::header::opened;
 use rules::Refusal;
-use times::u64s::copy;
+use tables::u64s::copy;
 ghost use lib.ListN.{length};
 ghost use Rattle.rules.specs.Calls.{to-starts};
 ghost use Rattle.stores.specs.Promise.{Promise, slices};

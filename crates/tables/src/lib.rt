@@ -5,6 +5,8 @@ ghost use lib.ListN.{length, replicate};
 ghost use lib.Seq.{slice, sets};
 ghost use Rattle.tables.specs.Tables.{insertAt, removeAt, swapRemove, mapFrom, up, down, findFrom};
 
+pub mod u64s;
+
 // What a search finds.
 pub enum Found {
     At(usize),

@@ -11,9 +11,10 @@ use Rattle.rules.specs.Sizes.{duration, mostJobs, longest}
 use Rattle.rules.specs.Graphs.{Graph}
 use Rattle.rules.specs.Routes.{Plan, outs, live, edge}
 use Rattle.rules.specs.Scores.{start, starts, floorOf, isCyclic, reportedStart}
+use Rattle.rules.specs.Sound.{Sound}
 use Rattle.rules.proofs.Ranges.{lt-or-le, greatest-lub}
 use Rattle.rules.proofs.Tabled.{table-at, table-past}
-use Rattle.rules.proofs.Puts.{Sound, live-inside}
+use Rattle.rules.proofs.Puts.{live-inside}
 use Rattle.routes.specs.Desks.{edgesOf}
 use Rattle.routes.proofs.Desking.{out-is, past}
 use Rattle.graphs.specs.Graph.{outOf, at, Below, live as liveIn}

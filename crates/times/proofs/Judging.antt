@@ -9,8 +9,8 @@ use Rattle.rules.specs.Graphs.{Graph, LineUp}
 use Rattle.rules.specs.Routes.{Plan}
 use Rattle.rules.specs.Scores.{start, starts, isCyclic}
 use Rattle.rules.specs.Shown.{order, cycle, shownLineUp, shownCycle}
+use Rattle.rules.specs.Sound.{Sound}
 use Rattle.rules.proofs.Plans.{cyclic-no-lineup}
-use Rattle.rules.proofs.Puts.{Sound}
 use Rattle.routes.specs.Desks.{edgesOf}
 use Rattle.graphs.specs.Graph.{at, zeros, live as liveIn}
 use Rattle.times.specs.Words.{spanWords}

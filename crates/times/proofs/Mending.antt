@@ -12,10 +12,11 @@ use Rattle.rules.specs.Graphs.{Graph}
 use Rattle.rules.specs.Routes.{Plan, live, putPlan, inForce}
 use Rattle.rules.specs.Scores.{best, starts, floorOf, isCyclic}
 use Rattle.rules.specs.Reports.{walk, tri, seeds, putWalk, putReport, Outcome}
+use Rattle.rules.specs.Solved.{Ranks}
+use Rattle.rules.specs.Sound.{Sound}
 use Rattle.rules.proofs.Plans.{ranks-of, starts-solve}
 use Rattle.rules.proofs.Starts.{best-edges}
-use Rattle.rules.proofs.Orders.{Ranks}
-use Rattle.rules.proofs.Puts.{Sound, put-sound, seeds-once, seeds-low, seeds-all, skipped-same}
+use Rattle.rules.proofs.Puts.{put-sound, seeds-once, seeds-low, seeds-all, skipped-same}
 use Rattle.rules.proofs.Reported.{put-starts}
 use Rattle.rules.proofs.Bounds.{finish-few}
 use Rattle.edges.specs.Edges.{Model, Holds}

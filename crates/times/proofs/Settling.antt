@@ -16,10 +16,11 @@ use Rattle.rules.specs.Sizes.{duration, mostJobs, longest}
 use Rattle.rules.specs.Routes.{Plan, putPlan, ownStage}
 use Rattle.rules.specs.Scores.{starts, isCyclic}
 use Rattle.rules.specs.Reports.{push, seeds, putWalk, putReport, Outcome}
+use Rattle.rules.specs.Sound.{Sound}
 use Rattle.rules.proofs.Ranges.{lt-or-le, clash, greatest-same, greatest-more}
 use Rattle.rules.proofs.Tabled.{table-at, table-past}
 use Rattle.rules.proofs.Walks.{tri-is}
-use Rattle.rules.proofs.Puts.{Sound, seeds-low}
+use Rattle.rules.proofs.Puts.{seeds-low}
 use Rattle.rules.proofs.Steps.{push-new, came-none}
 use Rattle.rules.proofs.Bounds.{finish-few}
 use Rattle.rules.proofs.Reported.{visits-bound}
@@ -31,12 +32,12 @@ use Rattle.kernels.specs.declared.rows.Tail.{Tail}
 use Rattle.kernels.specs.declared.rows.Tail.the-variants.{Is as Upto, Bad as Lost}
 use Rattle.kernels.specs.declared.lines.Lined.{Lined}
 use Rattle.kernels.specs.declared.lines.Lined.the-variants.{All, Stuck, Bad as Broken}
-use Rattle.kernels.specs.declared.walks.Walked.{Walked}
-use Rattle.kernels.specs.declared.walks.Walked.the-variants.{Visits, Bad as Astray}
+use Rattle.walks.specs.declared.walks.Walked.{Walked}
+use Rattle.walks.specs.declared.walks.Walked.the-variants.{Visits, Bad as Astray}
 use Rattle.kernels.specs.Lines.{Lows, Lines, LinedUp}
-use Rattle.kernels.specs.Fulls.{Judged, Full as Fully}
-use Rattle.kernels.specs.Walks.{Walk, Walks}
-use Rattle.kernels.proofs.Walking.{fuel-fits}
+use Rattle.pulls.specs.Fulls.{Judged, Full as Fully}
+use Rattle.walks.specs.Walks.{Walk, Walks}
+use Rattle.walks.proofs.Walking.{fuel-fits}
 use Rattle.times.specs.declared.settle.Settled.{Settled}
 use Rattle.times.specs.declared.settle.Settled.the-variants.{Is, Bad}
 use Rattle.times.specs.Words.{spanWords, timeWords, startOf}

@@ -13,7 +13,7 @@ use Rattle.rules.specs.Routes.{Plan, putPlan, inForce, ownStage}
 use Rattle.rules.specs.Scores.{isCyclic}
 use Rattle.rules.specs.Shown.{order}
 use Rattle.rules.specs.Reports.{push, seeds, putReport}
-use Rattle.rules.proofs.Puts.{Sound}
+use Rattle.rules.specs.Sound.{Sound}
 use Rattle.edges.specs.Edges.{Model, Holds}
 use Rattle.routes.specs.Desks.{edgesOf}
 use Rattle.graphs.specs.Graph.{live, Below}

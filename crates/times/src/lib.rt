@@ -1,3 +1,2 @@
 // The times of a plan: after a load or a put, the verdict and every start.
 pub mod settle;
-pub mod u64s;

@@ -1,13 +1,13 @@
 // After an exchange of edges: the verdict and the starts, as the report says.
-use crate::u64s::fill;
 use edges::spans::wide;
-use kernels::fulls::full;
 use kernels::lines::Lined;
 use kernels::lines::line_up;
 use kernels::rows::Tail;
-use kernels::walks::Walked;
-use kernels::walks::walk;
+use pulls::fulls::full;
 use rules::Report;
+use tables::u64s::fill;
+use walks::walks::Walked;
+use walks::walks::walk;
 ghost use mathlib.Core.Path.{_≡_};
 ghost use mathlib.Core.List.{_∷_, [], _++_};
 ghost use Prim.Native.Nat.{_≤_};

@@ -31,10 +31,14 @@ enum-known-plan : tie.Need-enum-known-plan
 enum-known-plan c = search needs
 
 sub-open : tie.Need-sub-open
-sub-open c = opened-at _ _ _ _ _ _ _ (c .before .plan .given .1) (c .before .before .before .before .before .before .gather .ensures)
+sub-open c =
+    let the-gather = c .before .before .before .before .before .before .gather in
+    opened-at _ _ _ _ _ _ _ (c .before .plan .given .1) (the-gather .ensures)
 
 part-open-start : tie.Need-part-open-start
-part-open-start c = opened-at _ _ _ _ _ _ _ (c .before .plan .given .1) (c .before .before .before .before .before .before .gather .ensures)
+part-open-start c =
+    let the-gather = c .before .before .before .before .before .before .gather in
+    opened-at _ _ _ _ _ _ _ (c .before .plan .given .1) (the-gather .ensures)
 
 part-open-end : tie.Need-part-open-end
 part-open-end c = search needs

@@ -26,7 +26,8 @@ use contract.Monad.{Fun, fact}
 use contract.Lifetimes.{Lfts}
 use contract.Running.{givenOf, tables, tablesOf}
 use types.Kit.{Given, Go, runs, Item, ‵, raw, some, later, _⊛_, ⋆, mean, Seq, anyQ, atRet, _$_, _∵_, !, qed, by, move, keep, drop, use0, use1, use2, use3, split, join, pick, rewrite, fsplit, fjoin, feqL, suffices, frame, await, done}
-use types.Run.{look, init, store, forget, stop, hop, fld, from, load, addr, lit, of-opd, bin, and-then, no-more, assigns, assigns-last, land, stays, leaves-loop, again, loops, Below, returns, enter, exec, alloc1, alloc0, params1, pass1, pass0, free1, free0}
+use types.Run.{look, init, store, forget, stop, hop, fld, from, load, addr, lit, of-opd, bin, and-then, no-more, assigns}
+use types.Run.{assigns-last, land, stays, leaves-loop, again, loops, Below, returns, enter, exec, alloc1, alloc0, params1, pass1, pass0, free1, free0}
 use types.Part.{agg, whole, sub, look-in}
 use types.Tokens.{lft-new, lft-end}
 use sound.WpLaws.{FmC, fmOf, WpFn-mono}
@@ -332,7 +333,8 @@ module _ {M : Type 1} (𝓤 : URA M) (H : Heap 𝓤) (A : Atoms 𝓤) (W : Given
   back : (ν : ℕ) (δ : GName) (zs zs′ : List Block) → length zs ≡ length ys → length zs′ ≡ length zs
       → ent 𝓤 (sep 𝓤 (A .dead (ν ∷ [])) (sep 𝓤 (sem 𝓤 H A (LentAgain R κ (ν ∷ []) q γ b o δ zs)) (sem 𝓤 H A (finally R δ zs′)))) (H .⇛ (sep 𝓤 (sem 𝓤 H A (Own zs′)) (A .lft κ q)))
   back ν δ zs zs′ e l =
-      subst (λ (m : ℕ). ent 𝓤 (sep 𝓤 (A .dead (ν ∷ [])) (sep 𝓤 (sem 𝓤 H A (LentAgain R κ (ν ∷ []) q γ b o δ zs)) (sem 𝓤 H A (finally R δ zs′)))) (H .⇛ (sep 𝓤 (sem 𝓤 H A (MutSlice (named 6) κ R .own (x γ zs′) (sliceVal (b, o) m ∷ []))) (A .lft κ q)))) e
+      subst (λ (m : ℕ). ent 𝓤 (sep 𝓤 (A .dead (ν ∷ [])) (sep 𝓤 (sem 𝓤 H A (LentAgain R κ (ν ∷ []) q γ b o δ zs)) (sem 𝓤 H A (finally R δ zs′))))
+      (H .⇛ (sep 𝓤 (sem 𝓤 H A (MutSlice (named 6) κ R .own (x γ zs′) (sliceVal (b, o) m ∷ []))) (A .lft κ q)))) e
       (comes-back R κ (ν ∷ []) q γ b o 𝓤 H A W (named 6) (named 0) zs δ zs′ (subst (Room R) (sym e) room) l)
 
   -- the call of `searched`
@@ -504,7 +506,11 @@ module _ {M : Type 1} (𝓤 : URA M) (H : Heap 𝓤) (A : Atoms 𝓤) (W : Given
           move ! (2 ∷ []) $ use1 W (‵ Six ⊛ ‵ Six) six-twice $ split ! $ move ! (4 ∷ 0 ∷ []) $
           use2 W (raw (Mvd 𝓤 H A mem run .pre (to-mvd (t .spot)))) (goes-mvd (t .spot) (t .is) (omega arith)) $
           -- [what the callee asks; the six; the slice; its token; _9; _10; _12; _13; _14; _15; _1; …]
-          calls-at ! fm (Mvd 𝓤 H A mem run) known-mvd (to-mvd (t .spot)) (and-then ! (load ! (from ! (stop !)) (look ! 11 refl)) (and-then ! (load ! (from ! (stop !)) (look ! 12 refl)) (and-then ! (load ! (from ! (stop !)) (look ! 13 refl)) (and-then ! (load ! (from ! (stop !)) (look ! 14 refl)) (and-then ! (load ! (from ! (stop !)) (look ! 15 refl)) (and-then ! (load ! (from ! (stop !)) (look ! 17 refl)) (and-then ! (load ! (from ! (stop !)) (look ! 4 refl)) (no-more !)))))))) (λ u.
+          calls-at ! fm (Mvd 𝓤 H A mem run) known-mvd (to-mvd (t .spot))
+          (and-then ! (load ! (from ! (stop !)) (look ! 11 refl)) (and-then ! (load ! (from ! (stop !)) (look ! 12 refl))
+          (and-then ! (load ! (from ! (stop !)) (look ! 13 refl)) (and-then ! (load ! (from ! (stop !)) (look ! 14 refl))
+          (and-then ! (load ! (from ! (stop !)) (look ! 15 refl)) (and-then ! (load ! (from ! (stop !)) (look ! 17 refl))
+          (and-then ! (load ! (from ! (stop !)) (look ! 4 refl)) (no-more !)))))))) (λ u.
           use1 W (later (some (λ (d : Spot). (Toks ⊛ ‵ (P .own d (u ∷ []))) ⊛ raw (ensured 𝓤 H A mvd.ended (mvd.clauses 𝓤 H A mem run) κᵐ (argsᵐ (t .spot)) tt d)))) (id⊢ 𝓤 _) $
           await ! tt $ pick ! (λ d.
           split ! $ move ! (1 ∷ []) $ use1 W (raw (fact 𝓤 (MovedTo (t .spot) d))) (said-mvd (t .spot) d) $
@@ -514,7 +520,8 @@ module _ {M : Type 1} (𝓤 : URA M) (H : Heap 𝓤) (A : Atoms 𝓤) (W : Given
           rewrite ! 4 (λ (z : Val). ‵ (fat fullShare S′.mir l9 0 z)) (spot-low d u isu) refl $
           -- [the tokens; the six; the slice; its token; _9; _10; _12; _13; _14; _15; _1; …]
           assigns ! (addr ! (from ! (fld ! refl (hop ! (look-in ! 16 (sub ! 0 refl (whole !))) (stop !))))) (from ! (stop !)) (init ! 8 refl (tt, tt)) $
-          assigns ! (agg ! (and-then ! (load ! (from ! (stop !)) (look ! 8 refl)) (and-then ! (load ! (from ! (fld ! refl (stop !))) (look-in ! 16 (sub ! 1 refl (whole !)))) (no-more !)))) (from ! (stop !)) (init ! 9 refl (tt, (tt, (record { fits = room .0 }, tt)))) $
+          assigns ! (agg ! (and-then ! (load ! (from ! (stop !)) (look ! 8 refl)) (and-then ! (load ! (from ! (fld ! refl (stop !))) (look-in ! 16 (sub ! 1 refl (whole !)))) (no-more !))))
+          (from ! (stop !)) (init ! 9 refl (tt, (tt, (record { fits = room .0 }, tt)))) $
           -- the slice is lent again for a lifetime ν of the call
           lft-new ! tt (λ ν. move ! (3 ∷ 4 ∷ []) $
           use2 W (later (some (λ (δ : GName). ‵ (MutSlice (named 0) (ν ∷ []) R .own (x δ (t .zs)) (s ∷ [])) ⊛ ‵ (LentAgain R κ (ν ∷ []) q γ b o δ (t .zs))))) (lend ν (t .zs) (t .so .long)) $
@@ -522,8 +529,11 @@ module _ {M : Type 1} (𝓤 : URA M) (H : Heap 𝓤) (A : Atoms 𝓤) (W : Given
           move ! (2 ∷ 0 ∷ []) $
           use2 W (raw (Put 𝓤 H A mem run .pre (to ν δ (t .zs) (t .i) (d .block)))) (goes ν δ (t .zs) (t .i) (d .block) (block-is d u isu) fits-i in-i) $
           -- [what the callee asks; what is lent; the tokens; the six; _9; _10; …]
-          calls-at ! fm (Put 𝓤 H A mem run) known (to ν δ (t .zs) (t .i) (d .block)) (and-then ! (load ! (from ! (stop !)) (look ! 9 refl)) (and-then ! (load ! (from ! (stop !)) (look ! 5 refl)) (and-then ! (load ! (from ! (fld ! refl (stop !))) (look-in ! 4 (sub ! 0 refl (whole !)))) (no-more !)))) (λ w.
-          use1 W (later (some (λ (r : Unit {0}). ((‵ (flft (ν ∷ []) fullShare) ⊛ ‵ ftrue) ⊛ ‵ (unit .own r (w ∷ []))) ⊛ raw (ensured 𝓤 H A put.ended (put.clauses 𝓤 H A mem run) (ν ∷ [], tt) (x δ (t .zs), (t .i, (d .block, tt))) tt r)))) (id⊢ 𝓤 _) $
+          calls-at ! fm (Put 𝓤 H A mem run) known (to ν δ (t .zs) (t .i) (d .block))
+          (and-then ! (load ! (from ! (stop !)) (look ! 9 refl)) (and-then ! (load ! (from ! (stop !)) (look ! 5 refl))
+          (and-then ! (load ! (from ! (fld ! refl (stop !))) (look-in ! 4 (sub ! 0 refl (whole !)))) (no-more !)))) (λ w.
+          use1 W (later (some (λ (r : Unit {0}). ((‵ (flft (ν ∷ []) fullShare) ⊛ ‵ ftrue) ⊛ ‵ (unit .own r (w ∷ [])))
+          ⊛ raw (ensured 𝓤 H A put.ended (put.clauses 𝓤 H A mem run) (ν ∷ [], tt) (x δ (t .zs), (t .i, (d .block, tt))) tt r)))) (id⊢ 𝓤 _) $
           await ! tt $ pick ! (λ r.
           split ! $ move ! (1 ∷ []) $
           use1 W (some (λ (us : List Block × (Unit {0} × (Unit {0} × Unit {0}))). ‵ (lasts put.ended (ν ∷ [], tt) (x δ (t .zs), (t .i, (d .block, tt))) us) ⊛ raw (fact 𝓤 (us .0 ≡ set (t .zs) (t .i) (d .block))))) (id⊢ 𝓤 _) $
@@ -562,7 +572,8 @@ module _ {M : Type 1} (𝓤 : URA M) (H : Heap 𝓤) (A : Atoms 𝓤) (W : Given
           assigns ! (bin ! (load ! (from ! (stop !)) (look ! 5 refl)) (load ! (from ! (fld ! refl (stop !))) (look-in ! 17 (sub ! 3 refl (whole !)))) tt) (from ! (stop !)) (init ! 6 refl (tt, tt)) $
           rewrite ! 6 (λ (c : Bool). ‵ (fat fullShare tyBool l12 0 (vbool c))) (le-ltb (t .i) k (omega arith)) refl $
           leaves-loop ! (load ! (from ! (stop !)) (look ! 6 refl)) $ exec ! C Λ En code.Mir.t-6 (atRet En Post) $
-          assigns ! (of-opd ! (load ! (from ! (fld ! refl (stop !))) (look-in ! 17 (sub ! 4 refl (whole !))))) (from ! (stop !)) (init ! 20 refl (EL.lawful B.the-type B′.the-laws 𝓤 H A W tt .typed (f .answer) _ (answer-is f (F′.lowered f) f-is) .0)) $
+          assigns ! (of-opd ! (load ! (from ! (fld ! refl (stop !))) (look-in ! 17 (sub ! 4 refl (whole !))))) (from ! (stop !))
+          (init ! 20 refl (EL.lawful B.the-type B′.the-laws 𝓤 H A W tt .typed (f .answer) _ (answer-is f (F′.lowered f) f-is) .0)) $
           returns ! (look ! 20 refl) $ forget ! 4 refl $ forget ! 5 refl $ forget ! 6 refl $ forget ! 10 refl $ forget ! 11 refl $ forget ! 12 refl $
           forget ! 13 refl $ forget ! 14 refl $ forget ! 15 refl $ forget ! 16 refl $ forget ! 17 refl $ forget ! 18 refl $ forget ! 20 refl $
           move ! (20 ∷ 21 ∷ []) $ free1 ! $ move ! (10 ∷ 20 ∷ []) $ free1 ! $ move ! (10 ∷ 19 ∷ []) $ free1 ! $ move ! (10 ∷ 18 ∷ []) $ free1 ! $
@@ -608,12 +619,19 @@ module _ {M : Type 1} (𝓤 : URA M) (H : Heap 𝓤) (A : Atoms 𝓤) (W : Given
       (known-ost : Triple 𝓤 (𝓣 .C #outset) (Ost 𝓤 H A mem run)) (known-mvd : Triple 𝓤 (𝓣 .C #moved) (Mvd 𝓤 H A mem run))
       (known : Triple 𝓤 (𝓣 .C #put-block) (Put 𝓤 H A mem run)) where
     -- `searched` is called
-    asks : (l0 l1 l2 l3 l4 l5 l6 l7 l8 l9 l10 l11 l12 l13 l14 l15 : ℕ) → ent 𝓤 (⋆ 𝓤 H A (Sorted l0 l1 l2 l3 l4 l5 l6 l7 l8 l9 l10 l11 l12 l13 l14 l15)) (Wp 𝓤 H (𝓣 .C) (𝓣 .Λ) (Locals l0 l1 l2 l3 l4 l5 l6 l7 l8 l9 l10 l11 l12 l13 l14 l15) code.Mir.t-2 (atReturn 𝓤 H (Locals l0 l1 l2 l3 l4 l5 l6 l7 l8 l9 l10 l11 l12 l13 l14 l15) Post))
+    asks : (l0 l1 l2 l3 l4 l5 l6 l7 l8 l9 l10 l11 l12 l13 l14 l15 : ℕ) → ent 𝓤 (⋆ 𝓤 H A (Sorted l0 l1 l2 l3 l4 l5 l6 l7 l8 l9 l10 l11 l12 l13 l14 l15))
+        (Wp 𝓤 H (𝓣 .C) (𝓣 .Λ) (Locals l0 l1 l2 l3 l4 l5 l6 l7 l8 l9 l10 l11 l12 l13 l14 l15) code.Mir.t-2
+        (atReturn 𝓤 H (Locals l0 l1 l2 l3 l4 l5 l6 l7 l8 l9 l10 l11 l12 l13 l14 l15) Post))
     asks l0 l1 l2 l3 l4 l5 l6 l7 l8 l9 l10 l11 l12 l13 l14 l15 =
-        qed W (Sorted l0 l1 l2 l3 l4 l5 l6 l7 l8 l9 l10 l11 l12 l13 l14 l15) ∵ exec ! (𝓣 .C) (𝓣 .Λ) (Locals l0 l1 l2 l3 l4 l5 l6 l7 l8 l9 l10 l11 l12 l13 l14 l15) code.Mir.t-2 (atRet (Locals l0 l1 l2 l3 l4 l5 l6 l7 l8 l9 l10 l11 l12 l13 l14 l15) Post) $
+        qed W (Sorted l0 l1 l2 l3 l4 l5 l6 l7 l8 l9 l10 l11 l12 l13 l14 l15) ∵
+        exec ! (𝓣 .C) (𝓣 .Λ) (Locals l0 l1 l2 l3 l4 l5 l6 l7 l8 l9 l10 l11 l12 l13 l14 l15) code.Mir.t-2 (atRet (Locals l0 l1 l2 l3 l4 l5 l6 l7 l8 l9 l10 l11 l12 l13 l14 l15) Post) $
         move ! (2 ∷ []) $ use1 W (‵ Six ⊛ ‵ Six) six-twice $ split ! $ move ! (4 ∷ 0 ∷ []) $ use2 W (raw (Srd 𝓤 H A mem run .pre to-srd)) goes-srd $
         -- [what the callee asks; the six; the slice; its token; _8; _9; _10; _12; _13; _14; _15; _1; …]
-        calls-at ! fm (Srd 𝓤 H A mem run) known-srd to-srd (and-then ! (load ! (from ! (stop !)) (look ! 11 refl)) (and-then ! (load ! (from ! (stop !)) (look ! 12 refl)) (and-then ! (load ! (from ! (stop !)) (look ! 13 refl)) (and-then ! (load ! (from ! (stop !)) (look ! 14 refl)) (and-then ! (load ! (from ! (stop !)) (look ! 15 refl)) (and-then ! (load ! (from ! (stop !)) (look ! 16 refl)) (and-then ! (load ! (from ! (stop !)) (look ! 18 refl)) (no-more !)))))))) (λ u.
+        calls-at ! fm (Srd 𝓤 H A mem run) known-srd to-srd
+        (and-then ! (load ! (from ! (stop !)) (look ! 11 refl)) (and-then ! (load ! (from ! (stop !)) (look ! 12 refl))
+        (and-then ! (load ! (from ! (stop !)) (look ! 13 refl)) (and-then ! (load ! (from ! (stop !)) (look ! 14 refl))
+        (and-then ! (load ! (from ! (stop !)) (look ! 15 refl)) (and-then ! (load ! (from ! (stop !)) (look ! 16 refl))
+        (and-then ! (load ! (from ! (stop !)) (look ! 18 refl)) (no-more !)))))))) (λ u.
         use1 W (later (some (λ (f : Search). ((‵ (flft κ₁ q₁) ⊛ Toks) ⊛ ‵ (Q .own f (u ∷ []))) ⊛ raw (ensured 𝓤 H A srd.ended (srd.clauses 𝓤 H A mem run) κˢ argsˢ tt f)))) (id⊢ 𝓤 _) $
         await ! tt $ pick ! (λ f.
         split ! $ move ! (1 ∷ []) $ use1 W (raw (fact 𝓤 (Searched lent (now w₆) (length ys) f))) (said-srd f) $
@@ -625,9 +643,12 @@ module _ {M : Type 1} (𝓤 : URA M) (H : Heap 𝓤) (A : Atoms 𝓤) (W : Given
         by ! (begins f (search-is f u isf) found 𝓣 fm known-mvd known l0 l1 l2 l3 l4 l5 l6 l7 l8 l9 l10 l11 l12 l13 l14 l15 known-ost)))))
 
     -- the length is read, and what is had at entry is sorted
-    opens : (l0 l1 l2 l3 l4 l5 l6 l7 l8 l9 l10 l11 l12 l13 l14 l15 : ℕ) → ent 𝓤 (⋆ 𝓤 H A (Entry l0 l1 l2 l3 l4 l5 l6 l7 l8 l9 l10 l11 l12 l13 l14 l15)) (Wp 𝓤 H (𝓣 .C) (𝓣 .Λ) (Locals l0 l1 l2 l3 l4 l5 l6 l7 l8 l9 l10 l11 l12 l13 l14 l15) code.Mir.t-1 (atReturn 𝓤 H (Locals l0 l1 l2 l3 l4 l5 l6 l7 l8 l9 l10 l11 l12 l13 l14 l15) Post))
+    opens : (l0 l1 l2 l3 l4 l5 l6 l7 l8 l9 l10 l11 l12 l13 l14 l15 : ℕ) → ent 𝓤 (⋆ 𝓤 H A (Entry l0 l1 l2 l3 l4 l5 l6 l7 l8 l9 l10 l11 l12 l13 l14 l15))
+        (Wp 𝓤 H (𝓣 .C) (𝓣 .Λ) (Locals l0 l1 l2 l3 l4 l5 l6 l7 l8 l9 l10 l11 l12 l13 l14 l15) code.Mir.t-1
+        (atReturn 𝓤 H (Locals l0 l1 l2 l3 l4 l5 l6 l7 l8 l9 l10 l11 l12 l13 l14 l15) Post))
     opens l0 l1 l2 l3 l4 l5 l6 l7 l8 l9 l10 l11 l12 l13 l14 l15 =
-        qed W (Entry l0 l1 l2 l3 l4 l5 l6 l7 l8 l9 l10 l11 l12 l13 l14 l15) ∵ exec ! (𝓣 .C) (𝓣 .Λ) (Locals l0 l1 l2 l3 l4 l5 l6 l7 l8 l9 l10 l11 l12 l13 l14 l15) code.Mir.t-1 (atRet (Locals l0 l1 l2 l3 l4 l5 l6 l7 l8 l9 l10 l11 l12 l13 l14 l15) Post) $
+        qed W (Entry l0 l1 l2 l3 l4 l5 l6 l7 l8 l9 l10 l11 l12 l13 l14 l15) ∵
+        exec ! (𝓣 .C) (𝓣 .Λ) (Locals l0 l1 l2 l3 l4 l5 l6 l7 l8 l9 l10 l11 l12 l13 l14 l15) code.Mir.t-1 (atRet (Locals l0 l1 l2 l3 l4 l5 l6 l7 l8 l9 l10 l11 l12 l13 l14 l15) Post) $
         assigns ! (of-opd ! (load ! (from ! (fld ! refl (stop !))) (look-in ! 16 (sub ! 1 refl (whole !))))) (from ! (stop !)) (init ! 8 refl (tt, record { fits = room .0 })) $
         move ! (32 ∷ 33 ∷ []) $ use2 W (‵ (flft κ q) ⊛ ((‵ (flft κ₁ q₁) ⊛ Toks) ⊛ (‵ Six ⊛ ‵ (Own ys)))) enters $
         split ! $ move ! (1 ∷ []) $ split ! $ move ! (1 ∷ []) $ split ! $
@@ -635,11 +656,14 @@ module _ {M : Type 1} (𝓤 : URA M) (H : Heap 𝓤) (A : Atoms 𝓤) (W : Given
         keep ! (1 ∷ 3 ∷ 0 ∷ 2 ∷ 18 ∷ 16 ∷ 14 ∷ 10 ∷ 8 ∷ 6 ∷ 4 ∷ 32 ∷ 30 ∷ 28 ∷ 26 ∷ 24 ∷ 22 ∷ 20 ∷ 12 ∷ 34 ∷ 35 ∷ 33 ∷ 31 ∷ 29 ∷ 27 ∷ 25 ∷ 23 ∷ 21 ∷ 19 ∷ 17 ∷ 15 ∷ 13 ∷ 11 ∷ 9 ∷ 7 ∷ 5 ∷ []) $
         by ! (asks l0 l1 l2 l3 l4 l5 l6 l7 l8 l9 l10 l11 l12 l13 l14 l15)
 
-    walk : Is (ShrSlice (named 0) κ₁ u32) w₁ (v₁ ∷ []) → Is (ShrSlice (named 1) κ₂ u64) w₂ (v₂ ∷ []) → Is (ShrSlice (named 2) κ₃ u16) w₃ (v₃ ∷ []) → Is (ShrSlice (named 3) κ₄ u16) w₄ (v₄ ∷ []) → Is (ShrSlice (named 4) κ₅ u64) w₅ (v₅ ∷ []) → Is (ShrSlice (named 5) κ₆ u32) w₆ (v₆ ∷ [])
+    walk : Is (ShrSlice (named 0) κ₁ u32) w₁ (v₁ ∷ []) → Is (ShrSlice (named 1) κ₂ u64) w₂ (v₂ ∷ [])
+        → Is (ShrSlice (named 2) κ₃ u16) w₃ (v₃ ∷ []) → Is (ShrSlice (named 3) κ₄ u16) w₄ (v₄ ∷ [])
+        → Is (ShrSlice (named 4) κ₅ u64) w₅ (v₅ ∷ []) → Is (ShrSlice (named 5) κ₆ u32) w₆ (v₆ ∷ [])
         → ent 𝓤 (onEntry 𝓤 H A blk.signature κs qs args at) (WpFn 𝓤 H (𝓣 .C) (𝓣 .Λ) shape (v₁ ∷ v₂ ∷ v₃ ∷ v₄ ∷ v₅ ∷ v₆ ∷ s ∷ []) Post)
     walk p₁ p₂ p₃ p₄ p₅ p₆ =
         qed W (AllToks ∷ ‵ Params ∷ []) ∵ enter ! (𝓣 .C) (𝓣 .Λ) shape (v₁ ∷ v₂ ∷ v₃ ∷ v₄ ∷ v₅ ∷ v₆ ∷ s ∷ []) _ $
-        alloc1 ! (λ l0. alloc1 ! (λ l1. alloc1 ! (λ l2. alloc1 ! (λ l3. alloc1 ! (λ l4. alloc1 ! (λ l5. alloc1 ! (λ l6. alloc1 ! (λ l7. alloc1 ! (λ l8. alloc1 ! (λ l9. alloc1 ! (λ l10. alloc1 ! (λ l11. alloc1 ! (λ l12. alloc1 ! (λ l13. alloc1 ! (λ l14. alloc1 ! (λ l15. alloc0 ! $
+        alloc1 ! (λ l0. alloc1 ! (λ l1. alloc1 ! (λ l2. alloc1 ! (λ l3. alloc1 ! (λ l4. alloc1 ! (λ l5. alloc1 ! (λ l6. alloc1 ! (λ l7.
+        alloc1 ! (λ l8. alloc1 ! (λ l9. alloc1 ! (λ l10. alloc1 ! (λ l11. alloc1 ! (λ l12. alloc1 ! (λ l13. alloc1 ! (λ l14. alloc1 ! (λ l15. alloc0 ! $
         params1 ! $
         pass1 ! (init ! 28 refl (shr-slice-lawful 𝓤 H A W (named 0) κ₁ u32 .typed w₁ (v₁ ∷ []) p₁ .0)) $
         pass1 ! (init ! 26 refl (shr-slice-lawful 𝓤 H A W (named 1) κ₂ u64 .typed w₂ (v₂ ∷ []) p₂ .0)) $
@@ -656,7 +680,25 @@ module _ {M : Type 1} (𝓤 : URA M) (H : Heap 𝓤) (A : Atoms 𝓤) (W : Given
       → Walks 𝓤 H A blk.ended stayed (WpFn 𝓤 H (𝓣 .C) (𝓣 .Λ) code.function) (blk.clauses 𝓤 H A mem run)
   blocks-walks 𝓣 known-srd known-ost known-mvd known = walked 𝓤 H A blk.ended stayed (blk.clauses 𝓤 H A mem run) (WpFn 𝓤 H (𝓣 .C) (𝓣 .Λ) code.function)
       (λ κs. (slice-vals, (slice-vals, (slice-vals, (slice-vals, (slice-vals, (slice-vals, (slice-vals, tt))))))))
-      (λ κs. (shr-slice-tells (named 0) (κs .0) u32, (shr-slice-tells (named 1) (κs .1 .0) u64, (shr-slice-tells (named 2) (κs .1 .1 .0) u16, (shr-slice-tells (named 3) (κs .1 .1 .1 .0) u16, (shr-slice-tells (named 4) (κs .1 .1 .1 .1 .0) u64, (shr-slice-tells (named 5) (κs .1 .1 .1 .1 .1 .0) u32, (mut-slice-tells (named 6) (κs .1 .1 .1 .1 .1 .1 .0) R, tt))))))))
+      (λ κs. (
+        shr-slice-tells (named 0) (κs .0) u32,
+        (
+          shr-slice-tells (named 1) (κs .1 .0) u64,
+          (
+            shr-slice-tells (named 2) (κs .1 .1 .0) u16,
+            (
+              shr-slice-tells (named 3) (κs .1 .1 .1 .0) u16,
+              (
+                shr-slice-tells (named 4) (κs .1 .1 .1 .1 .0) u64,
+                (
+                  shr-slice-tells (named 5) (κs .1 .1 .1 .1 .1 .0) u32,
+                  (mut-slice-tells (named 6) (κs .1 .1 .1 .1 .1 .1 .0) R, tt),
+                ),
+              ),
+            ),
+          ),
+        ),
+      ))
       (λ κs qs bounds a g are. via 𝓤 _ (fst∗ 𝓤 _ (emp 𝓤))
       (walk 𝓤 H A W mem run (κs .1 .1 .1 .1 .1 .1 .0) (κs .0) (κs .1 .0) (κs .1 .1 .0) (κs .1 .1 .1 .0) (κs .1 .1 .1 .1 .0) (κs .1 .1 .1 .1 .1 .0)
       (qs .1 .1 .1 .1 .1 .1 .0) (qs .0) (qs .1 .0) (qs .1 .1 .0) (qs .1 .1 .1 .0) (qs .1 .1 .1 .1 .0) (qs .1 .1 .1 .1 .1 .0)
@@ -669,8 +711,25 @@ blocks-meets : {M : Type 1} (𝓤 : URA M) (H : Heap 𝓤) (A : Atoms 𝓤) → 
     → Triple 𝓤 (𝓣 .C #searched) (Srd 𝓤 H A mem run) → Triple 𝓤 (𝓣 .C #outset) (Ost 𝓤 H A mem run) → Triple 𝓤 (𝓣 .C #moved) (Mvd 𝓤 H A mem run)
     → Triple 𝓤 (𝓣 .C #put-block) (Put 𝓤 H A mem run) → Meets 𝓤 H A blk.signature (WpFn 𝓤 H (𝓣 .C) (𝓣 .Λ) code.function) (blk.spec 𝓤 H A mem run)
 blocks-meets 𝓤 H A W mem run 𝓣 known-srd known-ost known-mvd known =
-    walk-meets 𝓤 H A blk.ended stayed W
-    (goes-none-slice 𝓤 H A W 7 (0 ∷ []) tt (plain (λ _. u32)) yes, (goes-none-slice 𝓤 H A W 7 (1 ∷ []) tt (plain (λ _. u64)) yes, (goes-none-slice 𝓤 H A W 7 (2 ∷ []) tt (plain (λ _. u16)) yes, (goes-none-slice 𝓤 H A W 7 (3 ∷ []) tt (plain (λ _. u16)) yes, (goes-none-slice 𝓤 H A W 7 (4 ∷ []) tt (plain (λ _. u64)) yes, (goes-none-slice 𝓤 H A W 7 (5 ∷ []) tt (plain (λ _. u32)) yes, (goes-slice 𝓤 H A W 7 6 tt (plain (λ _. R)), tt)))))))
+    walk-meets 𝓤 H A blk.ended stayed W (
+      goes-none-slice 𝓤 H A W 7 (0 ∷ []) tt (plain (λ _. u32)) yes,
+      (
+        goes-none-slice 𝓤 H A W 7 (1 ∷ []) tt (plain (λ _. u64)) yes,
+        (
+          goes-none-slice 𝓤 H A W 7 (2 ∷ []) tt (plain (λ _. u16)) yes,
+          (
+            goes-none-slice 𝓤 H A W 7 (3 ∷ []) tt (plain (λ _. u16)) yes,
+            (
+              goes-none-slice 𝓤 H A W 7 (4 ∷ []) tt (plain (λ _. u64)) yes,
+              (
+                goes-none-slice 𝓤 H A W 7 (5 ∷ []) tt (plain (λ _. u32)) yes,
+                (goes-slice 𝓤 H A W 7 6 tt (plain (λ _. R)), tt),
+              ),
+            ),
+          ),
+        ),
+      ),
+    )
     (blk.clauses 𝓤 H A mem run)
     (WpFn 𝓤 H (𝓣 .C) (𝓣 .Λ) code.function) (WpFn-mono 𝓤 H (W .laws) 𝓣 code.function) (blocks-walks 𝓤 H A W mem run 𝓣 known-srd known-ost known-mvd known)
 

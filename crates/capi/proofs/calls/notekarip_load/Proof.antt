@@ -1,7 +1,7 @@
 -- `notekarip_load`. Assumes nothing.
 use mathlib.Core.Path.{refl}
 use Rattle.stores.specs.Says.{saysScored}
-use Rattle.capi.proofs.Answering.{long-score, crowded, answered}
+use Rattle.tells.proofs.Answering.{long-score, crowded, answered}
 use borrow.Author.Needs.{needs}
 use Rattle.capi.proofs.calls.notekarip_load.Statement.{statement}
 use Rattle.capi.proofs.calls.notekarip_load.Tie as tie
@@ -29,9 +29,10 @@ enum-known-s c = search needs
 
 write-requires : tie.Need-write-requires
 write-requires c κs =
-    let the-room = c .before .before .before .before .before .before .before .before .before .before .before .before .before .before .before .before .before .before .before .before .before .lacks-room in
-    let the-if1 = c .before .before .before .before .before .before .before .before .before .before .before .before .before .before .before .before .before .before .before .before .if1 in
-    let a = c .before .before .before .before .before .before .before .before .before .before .before .before .before .before .before .before .before .before .before .before .before .before .before .before .before .before .before .before .before .before .before .before .args in
+    let tested = c .before .before .before .before .before .before .before .before .before .before .before .before .before .before .before .before .before .before .before .before in
+    let the-room = tested .before .lacks-room in
+    let the-if1 = tested .if1 in
+    let a = tested .before .before .before .before .before .before .before .before .before .before .before .before .args in
     long-score (a .nums .now) (a .told .now) (the-room .ensures) (the-if1 .left)
 
 same-length : tie.Need-same-length

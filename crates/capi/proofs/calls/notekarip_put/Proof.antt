@@ -1,7 +1,7 @@
 -- `notekarip_put`. Assumes nothing.
 use mathlib.Core.Path.{refl}
 use Rattle.refresh.specs.Changes.{saysChanged}
-use Rattle.capi.proofs.Answering.{long-score, long-told, crowded, answered}
+use Rattle.tells.proofs.Answering.{long-score, long-told, crowded, answered}
 use borrow.Author.Needs.{needs}
 use Rattle.capi.proofs.calls.notekarip_put.Statement.{statement}
 use Rattle.capi.proofs.calls.notekarip_put.Tie as tie

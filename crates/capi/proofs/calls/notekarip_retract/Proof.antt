@@ -1,7 +1,7 @@
 -- `notekarip_retract`. Assumes nothing.
 use mathlib.Core.Path.{refl}
 use Rattle.stores.specs.Says.{saysEnded}
-use Rattle.capi.proofs.Answering.{long-score, crowded, answered}
+use Rattle.tells.proofs.Answering.{long-score, crowded, answered}
 use borrow.Author.Needs.{needs}
 use Rattle.capi.proofs.calls.notekarip_retract.Statement.{statement}
 use Rattle.capi.proofs.calls.notekarip_retract.Tie as tie

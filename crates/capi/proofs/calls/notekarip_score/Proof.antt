@@ -1,7 +1,7 @@
 -- `notekarip_score`. Assumes nothing.
 use mathlib.Core.Path.{refl}
 use Rattle.stores.specs.Says.{saysCounted}
-use Rattle.capi.proofs.Answering.{long-score, long-told, crowded, answered}
+use Rattle.tells.proofs.Answering.{long-score, long-told, crowded, answered}
 use borrow.Author.Needs.{needs}
 use Rattle.capi.proofs.calls.notekarip_score.Statement.{statement}
 use Rattle.capi.proofs.calls.notekarip_score.Tie as tie

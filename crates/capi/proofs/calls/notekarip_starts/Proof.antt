@@ -2,7 +2,7 @@
 use mathlib.Core.Path.{refl}
 use Rattle.stores.specs.Says.{saysStarted}
 use Rattle.stores.proofs.Tabled.{places-length}
-use Rattle.capi.proofs.Answering.{long-told, crowded, answered}
+use Rattle.tells.proofs.Answering.{long-told, crowded, answered}
 use borrow.Author.Needs.{needs}
 use Rattle.capi.proofs.calls.notekarip_starts.Statement.{statement}
 use Rattle.capi.proofs.calls.notekarip_starts.Tie as tie

@@ -2,7 +2,7 @@
 use mathlib.Core.Path.{refl}
 use Rattle.refresh.specs.Shows.{saysVerdict}
 use Rattle.stores.proofs.Tabled.{places-length}
-use Rattle.capi.proofs.Answering.{long-told, crowded, answered}
+use Rattle.tells.proofs.Answering.{long-told, crowded, answered}
 use borrow.Author.Needs.{needs}
 use Rattle.capi.proofs.calls.notekarip_verdict.Statement.{statement}
 use Rattle.capi.proofs.calls.notekarip_verdict.Tie as tie

@@ -51,23 +51,23 @@ use Rattle.stores.specs.Promise.{Slices, slices}
 use Rattle.blocks.specs.Promise.{BlocksPromise, saysBlocked}
 use Rattle.blocks.specs.declared.blocks.Blocked.{Blocked}
 use Rattle.blocks.proofs.Chains.{fsplit8, fjoin8, split8, join8}
-use Rattle.capi.specs.Numbers.{blockedCode, blockedTold}
-use Rattle.capi.proofs.Answering.{long-told, crowded, answered, told-of}
+use Rattle.tells.specs.Numbers.{blockedCode, blockedTold}
+use Rattle.tells.proofs.Answering.{long-told, crowded, answered, told-of}
 use Rattle.rules.proofs.Block as T
 use Rattle.blocks.proofs.blocks.Blocked as B
 use Rattle.blocks.proofs.blocks.Blocked.Laws as B′
-use Rattle.capi.proofs.numbers.lacks_room as rm
-use Rattle.capi.proofs.numbers.lacks_room.Symbol as rm-def
-use Rattle.capi.proofs.numbers.lacks_room.Symbol.{name as #lacks-room}
-use Rattle.capi.proofs.numbers.lacks_room.Met as rm-thm
+use Rattle.tells.proofs.numbers.lacks_room as rm
+use Rattle.tells.proofs.numbers.lacks_room.Symbol as rm-def
+use Rattle.tells.proofs.numbers.lacks_room.Symbol.{name as #lacks-room}
+use Rattle.tells.proofs.numbers.lacks_room.Met as rm-thm
 use Rattle.blocks.proofs.blocks.blocks as blk
 use Rattle.blocks.proofs.blocks.blocks.Symbol as blk-def
 use Rattle.blocks.proofs.blocks.blocks.Symbol.{name as #blocks}
 use Rattle.blocks.proofs.blocks.blocks.Met as blk-thm
-use Rattle.capi.proofs.critical.told_blocks as tl
-use Rattle.capi.proofs.critical.told_blocks.Symbol as tl-def
-use Rattle.capi.proofs.critical.told_blocks.Symbol.{name as #told-blocks}
-use Rattle.capi.proofs.critical.told_blocks.Met as tl-thm
+use Rattle.tells.proofs.numbers.told_blocks as tl
+use Rattle.tells.proofs.numbers.told_blocks.Symbol as tl-def
+use Rattle.tells.proofs.numbers.told_blocks.Symbol.{name as #told-blocks}
+use Rattle.tells.proofs.numbers.told_blocks.Met as tl-thm
 use Rattle.capi.proofs.critical.notekarip_blocks.Key.{name as #notekarip-blocks}
 use Rattle.capi.proofs.critical.notekarip_blocks as ntk
 use Rattle.capi.proofs.critical.notekarip_blocks.Statement as stated
@@ -474,7 +474,8 @@ module _ {M : Type 1} (𝓤 : URA M) (H : Heap 𝓤) (A : Atoms 𝓤) (W : Given
     tells r room left d u us kept long-o =
         qed W (Answer r d u us) ∵ exec ! C Λ En code.Mir.t-8 (atRet En Post) $
         assigns ! (addr ! (from ! (fld ! refl (hop ! (look-in ! 22 (sub ! 0 refl (whole !))) (stop !))))) (from ! (stop !)) (init ! 8 refl (tt, tt)) $
-        assigns ! (agg ! (and-then ! (load ! (from ! (stop !)) (look ! 8 refl)) (and-then ! (load ! (from ! (fld ! refl (stop !))) (look-in ! 22 (sub ! 1 refl (whole !)))) (no-more !)))) (from ! (stop !)) (init ! 6 refl (tt, (tt, (record { fits = room-t .0 }, tt)))) $
+        assigns ! (agg ! (and-then ! (load ! (from ! (stop !)) (look ! 8 refl)) (and-then ! (load ! (from ! (fld ! refl (stop !))) (look-in ! 22 (sub ! 1 refl (whole !)))) (no-more !))))
+        (from ! (stop !)) (init ! 6 refl (tt, (tt, (record { fits = room-t .0 }, tt)))) $
         move ! (5 ∷ []) $ split ! $ move ! (1 ∷ 2 ∷ 6 ∷ []) $
         use3 W (raw (Tl 𝓤 H A mem run .pre (to-tl d u))) (goes-tl d u (long-told (now nums) (now told) room left)) $
         -- [what the callee asks; nums' token; the tokens; the records; nums; _17; …]
@@ -504,10 +505,15 @@ module _ {M : Type 1} (𝓤 : URA M) (H : Heap 𝓤) (A : Atoms 𝓤) (W : Given
     asks r room left =
         qed W (Tested r) ∵ exec ! C Λ En code.Mir.t-5 (atRet En Post) $
         assigns ! (addr ! (from ! (fld ! refl (hop ! (look-in ! 24 (sub ! 0 refl (whole !))) (stop !))))) (from ! (stop !)) (init ! 10 refl (tt, tt)) $
-        assigns ! (agg ! (and-then ! (load ! (from ! (stop !)) (look ! 10 refl)) (and-then ! (load ! (from ! (fld ! refl (stop !))) (look-in ! 24 (sub ! 1 refl (whole !)))) (no-more !)))) (from ! (stop !)) (init ! 8 refl (tt, (tt, (record { fits = room-o .0 }, tt)))) $
+        assigns ! (agg ! (and-then ! (load ! (from ! (stop !)) (look ! 10 refl)) (and-then ! (load ! (from ! (fld ! refl (stop !))) (look-in ! 24 (sub ! 1 refl (whole !)))) (no-more !))))
+        (from ! (stop !)) (init ! 8 refl (tt, (tt, (record { fits = room-o .0 }, tt)))) $
         move ! (3 ∷ []) $ use1 W (raw (Blk 𝓤 H A mem run .pre to-blk)) goes-blk $
         -- [what the callee asks; nums; told; the pair of tokens; _17; …]
-        calls-at ! fm (Blk 𝓤 H A mem run) known-blk to-blk (and-then ! (load ! (from ! (stop !)) (look ! 36 refl)) (and-then ! (load ! (from ! (stop !)) (look ! 34 refl)) (and-then ! (load ! (from ! (stop !)) (look ! 32 refl)) (and-then ! (load ! (from ! (stop !)) (look ! 30 refl)) (and-then ! (load ! (from ! (stop !)) (look ! 28 refl)) (and-then ! (load ! (from ! (stop !)) (look ! 26 refl)) (and-then ! (load ! (from ! (stop !)) (look ! 8 refl)) (no-more !)))))))) (λ u.
+        calls-at ! fm (Blk 𝓤 H A mem run) known-blk to-blk
+        (and-then ! (load ! (from ! (stop !)) (look ! 36 refl)) (and-then ! (load ! (from ! (stop !)) (look ! 34 refl))
+        (and-then ! (load ! (from ! (stop !)) (look ! 32 refl)) (and-then ! (load ! (from ! (stop !)) (look ! 30 refl))
+        (and-then ! (load ! (from ! (stop !)) (look ! 28 refl)) (and-then ! (load ! (from ! (stop !)) (look ! 26 refl))
+        (and-then ! (load ! (from ! (stop !)) (look ! 8 refl)) (no-more !)))))))) (λ u.
         use1 W (later (some (λ (d : Blocked). (Toks ⊛ ‵ (Z .own d (u ∷ []))) ⊛ raw (ensured 𝓤 H A blk.ended (blk.clauses 𝓤 H A mem run) κᵇ argsᵇ tt d)))) (id⊢ 𝓤 _) $
         await ! tt $ pick ! (λ d. split ! $ move ! (1 ∷ []) $
         use1 W (some (λ (us : Lasts). ‵ (lasts blk.ended κᵇ argsᵇ us) ⊛ raw (fact 𝓤 (Promised (records-of us) (saysBlocked (records-of us) d))))) (id⊢ 𝓤 _) $
@@ -516,7 +522,9 @@ module _ {M : Type 1} (𝓤 : URA M) (H : Heap 𝓤) (A : Atoms 𝓤) (W : Given
         move ! (8 ∷ []) $ split ! $ move ! (1 ∷ []) $ peeks ! Z (Is Z) (shows 𝓤 H A Z) d (u ∷ []) (λ is.
         -- [the answer; the tokens; the records; … seven times; nums; told; the pair of tokens; _17; …]
         land ! (from ! (stop !)) (init ! 27 refl (EL.lawful B.the-type B′.the-laws 𝓤 H A W tt .typed d _ is .0)) $
-        keep ! (0 ∷ 1 ∷ 2 ∷ 10 ∷ 11 ∷ 12 ∷ 13 ∷ 14 ∷ 15 ∷ 16 ∷ 17 ∷ 18 ∷ 19 ∷ 20 ∷ 21 ∷ 22 ∷ 23 ∷ 24 ∷ 25 ∷ 26 ∷ 27 ∷ 28 ∷ 29 ∷ 30 ∷ 31 ∷ 32 ∷ 33 ∷ 34 ∷ 35 ∷ 36 ∷ 37 ∷ 38 ∷ 39 ∷ 40 ∷ 41 ∷ 42 ∷ 43 ∷ 44 ∷ 45 ∷ 46 ∷ 47 ∷ 48 ∷ []) $ by ! (tells r room left d u (records-of us) kept long-o)))))))
+        keep ! (0 ∷ 1 ∷ 2 ∷ 10 ∷ 11 ∷ 12 ∷ 13 ∷ 14 ∷ 15 ∷ 16 ∷ 17 ∷ 18 ∷ 19 ∷ 20 ∷ 21 ∷ 22 ∷ 23 ∷ 24 ∷ 25 ∷ 26 ∷ 27 ∷ 28 ∷ 29
+        ∷ 30 ∷ 31 ∷ 32 ∷ 33 ∷ 34 ∷ 35 ∷ 36 ∷ 37 ∷ 38 ∷ 39 ∷ 40 ∷ 41 ∷ 42 ∷ 43 ∷ 44 ∷ 45 ∷ 46 ∷ 47 ∷ 48 ∷ []) $
+        by ! (tells r room left d u (records-of us) kept long-o)))))))
 
     -- the test
     tests : (r : Bool) → Lacks r → ent 𝓤 (⋆ 𝓤 H A (Tested r)) (Wp 𝓤 H C Λ En code.Mir.t-4 (atReturn 𝓤 H En Post))
@@ -553,11 +561,14 @@ module _ {M : Type 1} (𝓤 : URA M) (H : Heap 𝓤) (A : Atoms 𝓤) (W : Given
 
   module _ (C : Calls 𝓤 H) (Λ : Loops 𝓤 H) (fm : FmC 𝓤 H (W .laws) C) (known-rm : Triple 𝓤 (C #lacks-room) (Rm 𝓤 H A mem run))
       (known-blk : Triple 𝓤 (C #blocks) (Blk 𝓤 H A mem run)) (known-tl : Triple 𝓤 (C #told-blocks) (Tl 𝓤 H A mem run)) where
-    walk : Is (ShrSlice (named 0) κ₁ u32) w₁ (v₁ ∷ []) → Is (ShrSlice (named 1) κ₂ u64) w₂ (v₂ ∷ []) → Is (ShrSlice (named 2) κ₃ u16) w₃ (v₃ ∷ []) → Is (ShrSlice (named 3) κ₄ u16) w₄ (v₄ ∷ []) → Is (ShrSlice (named 4) κ₅ u64) w₅ (v₅ ∷ []) → Is (ShrSlice (named 5) κ₆ u32) w₆ (v₆ ∷ [])
+    walk : Is (ShrSlice (named 0) κ₁ u32) w₁ (v₁ ∷ []) → Is (ShrSlice (named 1) κ₂ u64) w₂ (v₂ ∷ [])
+        → Is (ShrSlice (named 2) κ₃ u16) w₃ (v₃ ∷ []) → Is (ShrSlice (named 3) κ₄ u16) w₄ (v₄ ∷ [])
+        → Is (ShrSlice (named 4) κ₅ u64) w₅ (v₅ ∷ []) → Is (ShrSlice (named 5) κ₆ u32) w₆ (v₆ ∷ [])
         → ent 𝓤 (onEntry 𝓤 H A ntk.signature κs (q₁, (q₂, (q₃, (q₄, (q₅, (q₆, (q₇, (q₈, (q₉, tt))))))))) args at) (WpFn 𝓤 H C Λ shape (v₁ ∷ v₂ ∷ v₃ ∷ v₄ ∷ v₅ ∷ v₆ ∷ vo ∷ vn ∷ vt ∷ []) Post)
     walk p₁ p₂ p₃ p₄ p₅ p₆ =
         qed W (AllToks ∷ ‵ Params ∷ []) ∵ enter ! C Λ shape (v₁ ∷ v₂ ∷ v₃ ∷ v₄ ∷ v₅ ∷ v₆ ∷ vo ∷ vn ∷ vt ∷ []) _ $
-        alloc1 ! (λ l0. alloc1 ! (λ l1. alloc1 ! (λ l2. alloc1 ! (λ l3. alloc1 ! (λ l4. alloc1 ! (λ l5. alloc1 ! (λ l6. alloc1 ! (λ l7. alloc1 ! (λ l8. alloc1 ! (λ l9. alloc1 ! (λ l10. alloc1 ! (λ l11. alloc1 ! (λ l12. alloc1 ! (λ l13. alloc1 ! (λ l14. alloc1 ! (λ l15. alloc1 ! (λ l16. alloc1 ! (λ l17. alloc0 ! $ params1 ! $
+        alloc1 ! (λ l0. alloc1 ! (λ l1. alloc1 ! (λ l2. alloc1 ! (λ l3. alloc1 ! (λ l4. alloc1 ! (λ l5. alloc1 ! (λ l6. alloc1 ! (λ l7. alloc1 ! (λ l8.
+        alloc1 ! (λ l9. alloc1 ! (λ l10. alloc1 ! (λ l11. alloc1 ! (λ l12. alloc1 ! (λ l13. alloc1 ! (λ l14. alloc1 ! (λ l15. alloc1 ! (λ l16. alloc1 ! (λ l17. alloc0 ! $ params1 ! $
         pass1 ! (init ! 32 refl (shr-slice-lawful 𝓤 H A W (named 0) κ₁ u32 .typed w₁ (v₁ ∷ []) p₁ .0)) $
         pass1 ! (init ! 30 refl (shr-slice-lawful 𝓤 H A W (named 1) κ₂ u64 .typed w₂ (v₂ ∷ []) p₂ .0)) $
         pass1 ! (init ! 28 refl (shr-slice-lawful 𝓤 H A W (named 2) κ₃ u16 .typed w₃ (v₃ ∷ []) p₃ .0)) $
@@ -643,6 +654,6 @@ notekarip-blocks-spec 𝓤 H 𝓜 𝓖 𝓡 =
     entered 𝓤 H (tripleOf 𝓤 H (𝓖 .A) ntk.signature (ntk.spec 𝓤 H (𝓖 .A) (𝓜 .mem) (𝓡 .run)))
     (tables 𝓤 H 𝓜 𝓡 code.env .C) (tables 𝓤 H 𝓜 𝓡 code.env .Λ) #notekarip-blocks code.function (code.unfolded 𝓤 H 𝓜 𝓡)
     (blocks-meets 𝓤 H (𝓖 .A) (givenOf 𝓤 H 𝓜 𝓖) (𝓜 .mem) (𝓡 .run) (tablesOf 𝓤 H 𝓜 (tables 𝓤 H 𝓜 𝓡 code.env))
-    (cited 𝓤 H (Rm 𝓤 H (𝓖 .A) (𝓜 .mem) (𝓡 .run)) 𝓜 𝓡 code.env #lacks-room rm-def.routine code.calls-capi·numbers·lacks-room (rm-thm.met 𝓤 H 𝓜 𝓖 𝓡))
+    (cited 𝓤 H (Rm 𝓤 H (𝓖 .A) (𝓜 .mem) (𝓡 .run)) 𝓜 𝓡 code.env #lacks-room rm-def.routine code.calls-tells·numbers·lacks-room (rm-thm.met 𝓤 H 𝓜 𝓖 𝓡))
     (cited 𝓤 H (Blk 𝓤 H (𝓖 .A) (𝓜 .mem) (𝓡 .run)) 𝓜 𝓡 code.env #blocks blk-def.routine code.calls-blocks·blocks·blocks (blk-thm.met 𝓤 H 𝓜 𝓖 𝓡))
-    (cited 𝓤 H (Tl 𝓤 H (𝓖 .A) (𝓜 .mem) (𝓡 .run)) 𝓜 𝓡 code.env #told-blocks tl-def.routine code.calls-capi·critical·told-blocks (tl-thm.met 𝓤 H 𝓜 𝓖 𝓡)))
+    (cited 𝓤 H (Tl 𝓤 H (𝓖 .A) (𝓜 .mem) (𝓡 .run)) 𝓜 𝓡 code.env #told-blocks tl-def.routine code.calls-tells·numbers·told-blocks (tl-thm.met 𝓤 H 𝓜 𝓖 𝓡)))

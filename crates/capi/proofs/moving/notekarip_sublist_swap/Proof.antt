@@ -2,7 +2,7 @@
 use mathlib.Core.Path.{refl}
 use Rattle.stores.proofs.Tabled.{places-length}
 use Rattle.moves.specs.Calls.{saysMoved}
-use Rattle.capi.proofs.Answering.{long-told, crowded, answered}
+use Rattle.tells.proofs.Answering.{long-told, crowded, answered}
 use borrow.Author.Needs.{needs}
 use Rattle.capi.proofs.moving.notekarip_sublist_swap.Statement.{statement}
 use Rattle.capi.proofs.moving.notekarip_sublist_swap.Tie as tie

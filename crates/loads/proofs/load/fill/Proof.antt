@@ -39,9 +39,10 @@ same-length-5 c = search needs
 
 returns : tie.Need-returns
 returns c =
-    let at-write = c .before .before .before .before .before .before .before .before .before .before .before .before .before .before .before .before in
+    let at-score = c .before .before in
+    let at-write = at-score .before .before .before .before .before .before .before .before .before .before .before .before .before .before in
     let start = at-write .before .before .before .before .before .before .before .before .before .before .before .before .before .before in
-    filled _ (start .pre .0 .fine) (at-write .write .ensures) (c .before .before .first-score .ensures)
+    filled _ (start .pre .0 .fine) (at-write .write .ensures) (at-score .first-score .ensures)
 
 pub fill-spec : {M : Type 1} → statement M
 fill-spec =

@@ -1,9 +1,7 @@
 -- `begin`. Assumes nothing.
 use Rattle.moves.proofs.Promised.{begins-bad, begins-broken, begins-closed, begins-nobody, begins-of, owner-near}
 use borrow.Author.Tests.{not-false, not-true}
-use Rattle.moves.proofs.Promised.{begins-bad, begins-broken, begins-closed, begins-nobody, begins-of}
 use Rattle.stores.proofs.Openings.{open-is}
-use borrow.Author.Tests.{not-false, not-true}
 use lib.ListN.{length-take}
 use mathlib.Core.Path.{sym, _∙_}
 use native.Mathlib.Omega.{arith}

@@ -20,14 +20,16 @@ enum-known-word c = search needs
 
 array-share-prefix-numbers : tie.Need-array-share-prefix-numbers
 array-share-prefix-numbers c =
-    let P = rw (c .before .word .given .1) at (c .before .before .before .before .parse .ensures .means) in
+    let the-parse = c .before .before .before .before .parse in
+    let P = rw (c .before .word .given .1) at (the-parse .ensures .means) in
     let h = P .within in
     let s = P .same in
     omega arith
 
 slice-aggregate-word-step : tie.Need-slice-aggregate-word-step
 slice-aggregate-word-step c =
-    let P = rw (c .before .before .word .given .1) at (c .before .before .before .before .before .parse .ensures .means) in
+    let the-parse = c .before .before .before .before .before .parse in
+    let P = rw (c .before .before .word .given .1) at (the-parse .ensures .means) in
     sym (numbers-long P)
 
 word-step-requires : tie.Need-word-step-requires

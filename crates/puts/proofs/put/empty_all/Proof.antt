@@ -48,16 +48,11 @@ same-length-3 c = search needs
 
 returns-2 : tie.Need-returns-2 Inv-loop μ-loop
 returns-2 c =
-    let the-loop = c .before .before .before .before .before .before .before .before .before .before .before .before .before .loop in
+    let at-loop = c .before .before .before .before .before .before .before .before .before .before .before .before .before in
+    let the-wide = at-loop .before .before .wide in
+    let start = at-loop .before .before .before .before .before .before .before in
+    let the-loop = at-loop .loop in
     let the-empty-one = c .before .before .before .before .before .before .before .before .empty-one in
-    let the-wide =
-    c .before .before .before .before .before .before .before .before .before .before .before .before .before .before
-    .before .wide in
-    let start =
-    c .before .before .before .before .before .before .before .before .before .before .before .before .before .before
-    .before .before .before .before .before .before in
-    let the-loop = the-loop in
-    let the-empty-one = the-empty-one in
     let the-enum-told = c .enum-told in
     rounds-bad (the-wide .ensures) (start .pre .2) (the-loop .inv) (omega arith) (the-empty-one .ensures) (the-enum-told .given .1)
 
@@ -72,20 +67,14 @@ loop-less c = search needs
 
 loop-again : tie.Need-loop-again Inv-loop μ-loop
 loop-again c =
+    let at-loop = c .before .before .before .before .before .before .before .before .before .before .before .before .before .before in
+    let the-wide = at-loop .before .before .wide in
+    let start = at-loop .before .before .before .before .before .before .before in
+    let the-loop = at-loop .loop in
+    let the-loop-test = c .before .before .before .before .before .before .before .before .before .before .before .before .before .loop-test in
     let the-empty-one = c .before .before .before .before .before .before .before .before .before .empty-one in
     let the-h = c .before .h in
-    let the-wide =
-    c .before .before .before .before .before .before .before .before .before .before .before .before .before .before
-    .before .before .wide in
-    let start =
-    c .before .before .before .before .before .before .before .before .before .before .before .before .before .before
-    .before .before .before .before .before .before .before in
-    let the-loop =
-    c .before .before .before .before .before .before .before .before .before .before .before .before .before .before
-    .loop in
-    let the-empty-one = the-empty-one in
-    let the-h = the-h in
-    rounds-on (the-wide .ensures) (start .pre .2) (the-loop .inv) (omega arith) (the-empty-one .ensures) (the-h .given .1)
+    rounds-on (the-wide .ensures) (start .pre .2) (the-loop .inv) (the-loop-test .taken) (the-empty-one .ensures) (the-h .given .1)
     (search needs) (search needs) (search needs)
 
 clear-requires : tie.Need-clear-requires Inv-loop μ-loop

@@ -55,15 +55,10 @@ same-length-3 c = search needs
 
 returns-3 : tie.Need-returns-3
 returns-3 c =
+    let at-if2 = c .before .before .before .before .before .before .before .before .before .before .before .before .before .before .before in
+    let the-wide = at-if2 .before .before .wide in
+    let the-if2 = at-if2 .if2 in
     let the-swap-route = c .before .before .before .before .before .before .before .before .before .swap-route in
-    let the-before = c .before .before .before .before .before .before .before .before .before .before .before .before .before .before in
-    let the-wide =
-    the-before
-    .before .before .before .wide in
-    let the-if2 =
-    the-before
-    .before .if2 in
-    let the-swap-route = the-swap-route in
     let the-enum-told = c .enum-told in
     one-bad (the-wide .ensures) (the-if2 .left) (the-swap-route .ensures) (the-enum-told .given .1)
 
@@ -78,17 +73,12 @@ same-length-6 c = search needs
 
 returns-4 : tie.Need-returns-4
 returns-4 c =
-    let the-swap-route = c .before .before .before .before .before .before .before .before .before .before .swap-route in
+    let at-swap-route = c .before .before .before .before .before .before .before .before .before .before in
+    let at-if2 = at-swap-route .before .before .before .before .before .before in
+    let the-wide = at-if2 .before .before .wide in
+    let the-if2 = at-if2 .if2 in
+    let the-swap-route = at-swap-route .swap-route in
     let the-h = c .before .h in
-    let the-before = c .before .before .before .before .before .before .before .before .before .before .before .before .before .before in
-    let the-wide =
-    the-before
-    .before .before .before .before .wide in
-    let the-if2 =
-    the-before
-    .before .before .if2 in
-    let the-swap-route = the-swap-route in
-    let the-h = the-h in
     one-done (the-wide .ensures) (the-if2 .left) (the-swap-route .ensures) (the-h .given .1)
 
 pub empty-one-spec : {M : Type 1} → statement M

@@ -34,12 +34,9 @@ slice-aggregate-put-stops c =
 
 put-stops-requires : tie.Need-put-stops-requires
 put-stops-requires c κs =
-    let the-snapshot = c .before .before .before .before .before .before .before .before .before .before .before .before .snapshot in
-    let the-before = c .before .before .before .before .before .before .before .before .before .before .before .before .before .before in
-    let start =
-    the-before
-    .before .before .before .before .before .before .before in
-    let the-snapshot = the-snapshot in
+    let at-snapshot = c .before .before .before .before .before .before .before .before .before .before .before .before in
+    let start = at-snapshot .before .before .before .before .before .before .before .before .before in
+    let the-snapshot = at-snapshot .snapshot in
     let size = start .pre .0 in
     let long = stops-long-as (the-snapshot .ensures) refl in
     let few = valid-few (the-snapshot .ensures) (size .3) in
@@ -82,22 +79,14 @@ same-length-7 c = search needs
 
 returns-3 : tie.Need-returns-3
 returns-3 c =
-    let the-put-stops = c .before .before .before .before .before .before .before .before .before .before .put-stops in
-    let the-before = c .before .before .before .before .before .before .before .before .before .before .before .before .before .before in
-    let the-snapshot =
-    the-before
-    .before .before .before .before .before .before .before .before .before .snapshot in
-    let the-crowded =
-    the-before
-    .before .before .before .before .before .crowded in
-    let the-enum-told3 =
-    the-before
-    .before .before .before .enum-told3 in
-    let start =
-    the-before
-    .before .before .before .before .before .before .before .before .before .before .before .before .before .before
-    .before .before .before .before in
-    let the-put-stops = the-put-stops in
+    let at-put-stops = c .before .before .before .before .before .before .before .before .before .before in
+    let at-enum-told3 = at-put-stops .before .before .before .before .before .before .before in
+    let at-crowded = at-enum-told3 .before .before in
+    let the-snapshot = at-crowded .before .before .before .before .snapshot in
+    let the-crowded = at-crowded .crowded in
+    let the-enum-told3 = at-enum-told3 .enum-told3 in
+    let start = at-crowded .before .before .before .before .before .before .before .before .before .before .before .before .before in
+    let the-put-stops = at-put-stops .put-stops in
     put-stops (the-snapshot .ensures) (the-crowded .ensures) (the-enum-told3 .given .1) (start .pre .0 .3) refl refl refl
     (the-put-stops .ensures)
 

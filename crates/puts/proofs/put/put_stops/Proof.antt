@@ -54,19 +54,13 @@ same-length-8 c = search needs
 
 returns-2 : tie.Need-returns-2
 returns-2 c =
-    let the-swap-route = c .before .before .before .before .before .before .before .before .before .before .swap-route in
-    let the-before = c .before .before .before .before .before .before .before .before .before .before .before .before .before .before in
-    let start =
-    the-before
-    .before .before .before .before .before .before .before .before .before .before .before .before .before .before
-    .before .before .before .before .before .before in
-    let the-empty-all =
-    the-before
-    .before .before .before .before .before .before .before .before .before .before .empty-all in
-    let the-g =
-    the-before
-    .before .before .g in
-    let the-swap-route = the-swap-route in
+    let at-swap-route = c .before .before .before .before .before .before .before .before .before .before in
+    let at-g = at-swap-route .before .before .before .before .before .before in
+    let at-empty-all = at-g .before .before .before .before .before .before .before .before in
+    let start = at-empty-all .before .before .before .before .before .before .before .before .before .before in
+    let the-empty-all = at-empty-all .empty-all in
+    let the-g = at-g .g in
+    let the-swap-route = at-swap-route .swap-route in
     let the-enum-told2 = c .enum-told2 in
     let long = start .pre .1 in
     stops-bad (the-empty-all .ensures) (the-g .given .1) (the-swap-route .ensures) (long .1) (long .0) (the-enum-told2 .given .1)
@@ -88,21 +82,14 @@ same-length-13 c = search needs
 
 returns-3 : tie.Need-returns-3
 returns-3 c =
-    let the-swap-route = c .before .before .before .before .before .before .before .before .before .before .before .swap-route in
+    let at-swap-route = c .before .before .before .before .before .before .before .before .before .before .before in
+    let at-g = at-swap-route .before .before .before .before .before .before in
+    let at-empty-all = at-g .before .before .before .before .before .before .before .before in
+    let start = at-empty-all .before .before .before .before .before .before .before .before .before .before in
+    let the-empty-all = at-empty-all .empty-all in
+    let the-g = at-g .g in
+    let the-swap-route = at-swap-route .swap-route in
     let the-h = c .before .h in
-    let the-before = c .before .before .before .before .before .before .before .before .before .before .before .before .before .before in
-    let start =
-    the-before
-    .before .before .before .before .before .before .before .before .before .before .before .before .before .before
-    .before .before .before .before .before .before .before in
-    let the-empty-all =
-    the-before
-    .before .before .before .before .before .before .before .before .before .before .before .empty-all in
-    let the-g =
-    the-before
-    .before .before .before .g in
-    let the-swap-route = the-swap-route in
-    let the-h = the-h in
     let long = start .pre .1 in
     stops-done (the-empty-all .ensures) (the-g .given .1) (the-swap-route .ensures) (long .1) (long .0) (the-h .given .1)
 

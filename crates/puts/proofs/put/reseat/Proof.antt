@@ -49,14 +49,10 @@ same-length-3 c = search needs
 
 returns-3 : tie.Need-returns-3
 returns-3 c =
-    let the-assign = c .before .before .before .before .before .before .before .before .assign in
+    let at-assign = c .before .before .before .before .before .before .before .before in
+    let the-unassign = at-assign .before .before .before .before .before .before .unassign in
+    let the-assign = at-assign .assign in
     let the-put-route = c .before .before .put-route in
-    let the-before = c .before .before .before .before .before .before .before .before .before .before .before .before .before .before in
-    let the-unassign =
-    the-before
-    .unassign in
-    let the-assign = the-assign in
-    let the-put-route = the-put-route in
     reseated (the-unassign .ensures) (the-assign .ensures) (the-put-route .ensures)
 
 pub reseat-spec : {M : Type 1} → statement M

@@ -49,18 +49,12 @@ slice-aggregate-exchange-2 c = search needs
 
 exchange-requires : tie.Need-exchange-requires
 exchange-requires c κs =
-    let the-links-of = c .before .before .before .before .before .before .before .before .before .before .before .links-of in
+    let at-links-of = c .before .before .before .before .before .before .before .before .before .before .before in
+    let start = at-links-of .before .before .before .before .before .before .before in
+    let the-links-of = at-links-of .links-of in
     let the-links-of2 = c .before .before .before .before .before .before .before .before .links-of2 in
     let the-if1 = c .before .before .before .before .before .before .if1 in
     let the-if2 = c .before .before .before .before .before .if2 in
-    let the-before = c .before .before .before .before .before .before .before .before .before .before .before .before .before .before in
-    let start =
-    the-before
-    .before .before .before .before in
-    let the-links-of = the-links-of in
-    let the-links-of2 = the-links-of2 in
-    let the-if1 = the-if1 in
-    let the-if2 = the-if2 in
     let size = start .pre .0 in
     let few = linked-few (65 + start .args .f) (65 + start .args .t) (start .args .r .now) (the-links-of .ensures) (omega (arith, size)) in
     let few₂ = linked-few 0 (start .args .k) (start .args .s .now) (the-links-of2 .ensures) (size .4) in (
@@ -82,25 +76,21 @@ same-length-3 c = search needs
 
 returns-3 : tie.Need-returns-3
 returns-3 c =
-    let the-exchange = c .before .before .before .before .before .before .before .before .exchange in
-    let the-before = c .before .before .before .before .before .before .before .before .before .before .before .before .before .before in
-    let start =
-    the-before
-    .before .before .before .before .before .before .before .before .before .before .before .before .before in
-    let the-links-of =
-    the-before
-    .before .before .before .before .before .before .links-of in
-    let the-links-of2 =
-    the-before
-    .before .before .before .links-of2 in
-    let the-exchange = the-exchange in
+    let at-exchange = c .before .before .before .before .before .before .before .before in
+    let at-links-of2 = at-exchange .before .before .before .before .before .before .before .before .before in
+    let at-links-of = at-links-of2 .before .before .before in
+    let start = at-links-of .before .before .before .before .before .before .before in
+    let the-links-of = at-links-of .links-of in
+    let the-links-of2 = at-links-of2 .links-of2 in
+    let the-exchange = at-exchange .exchange in
     let the-capped = c .capped in
+    let kept = the-exchange .kept .1 .1 .1 .1 .1 in
     let size = start .pre .0 in
     let old = length-slice (65 + start .args .f) (65 + start .args .t) (start .args .r .now) (omega (arith, size)) in
     let new = length-slice 0 (start .args .k) (start .args .s .now) (size .4) in
     edges-done (the-links-of .ensures) (the-links-of2 .ensures) (omega (arith, old, size)) (omega (arith, new, size))
     (the-exchange .ensures)
-    (search needs) (search needs) (the-capped .ensures)
+    (kept .0) (kept .1 .1 .0) (the-capped .ensures)
 
 pub swap-edges-spec : {M : Type 1} → statement M
 swap-edges-spec =

@@ -30,16 +30,11 @@ enum-known-h c = search needs
 
 reseat-requires : tie.Need-reseat-requires
 reseat-requires c κs =
-    let the-before = c .before .before .before .before .before .before .before .before .before .before .before .before .before .before in
-    let the-span-of =
-    the-before
-    .before .before .before .before .span-of in
-    let the-f =
-    the-before
-    .before .before .f in
-    let start =
-    the-before
-    .before .before .before .before .before .before .before .before .before .before .before in
+    let at-swap-edges = c .before .before .before .before .before .before .before .before .before .before in
+    let at-f = at-swap-edges .before .before .before .before .before .before in
+    let the-span-of = at-f .before .before .span-of in
+    let the-f = at-f .f in
+    let start = at-f .before .before .before .before .before .before .before .before .before in
     let at = lies _ _ _ (the-span-of .ensures) _ _ _ (the-f .given .1) in
     (start .pre .0 .0, start .pre .0 .2, at .forward, omega (arith, at .inside, at .few), start .pre .0 .3)
 
@@ -72,14 +67,10 @@ same-length-5 c = search needs
 
 returns-2 : tie.Need-returns-2
 returns-2 c =
-    let the-f = c .before .before .before .before .before .before .before .before .before .before .before .before .before .before .f in
+    let at-f = c .before .before .before .before .before .before .before .before .before .before .before .before .before .before in
+    let the-span-of = at-f .before .before .span-of in
+    let the-f = at-f .f in
     let the-swap-edges = c .before .before .before .before .before .before .before .before .swap-edges in
-    let the-before = c .before .before .before .before .before .before .before .before .before .before .before .before .before .before in
-    let the-span-of =
-    the-before
-    .before .before .span-of in
-    let the-f = the-f in
-    let the-swap-edges = the-swap-edges in
     let the-enum-told2 = c .enum-told2 in
     let at = lies _ _ _ (the-span-of .ensures) _ _ _ (the-f .given .1) in
     route-edges-bad at (the-swap-edges .ensures) (the-enum-told2 .given .1)
@@ -98,18 +89,13 @@ same-length-9 c = search needs
 
 returns-3 : tie.Need-returns-3
 returns-3 c =
-    let the-reseat = c .before .before .before .before .reseat in
-    let the-before = c .before .before .before .before .before .before .before .before .before .before .before .before .before .before in
-    let the-span-of =
-    the-before
-    .before .before .before .before .before .before .before .before .before .span-of in
-    let the-f =
-    the-before
-    .before .before .before .before .before .before .before .f in
-    let the-swap-edges =
-    the-before
-    .before .swap-edges in
-    let the-reseat = the-reseat in
+    let at-reseat = c .before .before .before .before in
+    let at-swap-edges = at-reseat .before .before .before .before .before .before .before .before .before .before .before in
+    let at-f = at-swap-edges .before .before .before .before .before .before in
+    let the-span-of = at-f .before .before .span-of in
+    let the-f = at-f .f in
+    let the-swap-edges = at-swap-edges .swap-edges in
+    let the-reseat = at-reseat .reseat in
     let the-enum-told3 = c .enum-told3 in
     let at = lies _ _ _ (the-span-of .ensures) _ _ _ (the-f .given .1) in
     route-bad at (the-swap-edges .ensures) (the-reseat .ensures) (the-enum-told3 .given .1)
@@ -128,20 +114,14 @@ same-length-13 c = search needs
 
 returns-4 : tie.Need-returns-4
 returns-4 c =
+    let at-h = c .before .before .before .before .before .before .before in
+    let at-swap-edges = at-h .before .before .before .before .before .before .before .before in
+    let at-f = at-swap-edges .before .before .before .before .before .before in
+    let the-span-of = at-f .before .before .span-of in
+    let the-f = at-f .f in
+    let the-swap-edges = at-swap-edges .swap-edges in
     let the-reseat = c .before .before .before .before .reseat in
-    let the-h = c .before .before .before .before .before .before .before .h in
-    let the-before = c .before .before .before .before .before .before .before .before .before .before .before .before .before .before in
-    let the-span-of =
-    the-before
-    .before .before .before .before .before .before .before .before .before .span-of in
-    let the-f =
-    the-before
-    .before .before .before .before .before .before .before .f in
-    let the-swap-edges =
-    the-before
-    .before .swap-edges in
-    let the-reseat = the-reseat in
-    let the-h = the-h in
+    let the-h = at-h .h in
     let at = lies _ _ _ (the-span-of .ensures) _ _ _ (the-f .given .1) in
     route-done at (the-swap-edges .ensures) (the-reseat .ensures) (the-h .given .1)
 

@@ -50,16 +50,12 @@ broad-requires c κs = search needs
 
 refresh-requires : tie.Need-refresh-requires
 refresh-requires c κs =
-    let the-before = c .before .before .before .before .before .before .before .before .before .before .before .before .before .before in
-    let start =
-    the-before
-    .before .before .before .before .before .before .before .before .before .before .before .before .before .before
-    .before in
+    let at-c = c .before .before .before .before .before .before .before in
+    let at-put = at-c .before .before .before .before .before .before .before .before .before in
+    let start = at-put .before .before .before .before .before .before .before .before .before .before .before .before .before in
     let the-broad = c .broad in
-    let the-put =
-    the-before
-    .before .before .put in
-    let the-c = c .before .before .before .before .before .before .before .c in
+    let the-put = at-put .put in
+    let the-c = at-c .c in
     let p = start .pre .0 in
     let few = start .pre .1 .0 in
     let jobs = the-broad .ensures in
@@ -122,11 +118,9 @@ same-length-7 c = search needs
 
 returns-3 : tie.Need-returns-3
 returns-3 c =
-    let the-before = c .before .before .before .before .before .before .before .before .before .before .before .before .before .before in
-    let the-put =
-    the-before
-    .before .before .before .before .before .before .before .put in
-    let the-c = c .before .before .before .before .before .before .before .before .before .before .before .before .c in
+    let at-c = c .before .before .before .before .before .before .before .before .before .before .before .before in
+    let the-put = at-c .before .before .before .before .before .before .before .before .before .put in
+    let the-c = at-c .c in
     let the-refresh = c .before .before .before .before .refresh in
     let the-broad = c .before .before .before .before .before .broad in
     let the-enum-told3 = c .enum-told3 in
@@ -143,11 +137,9 @@ same-length-10 c = search needs
 
 returns-4 : tie.Need-returns-4
 returns-4 c =
-    let the-before = c .before .before .before .before .before .before .before .before .before .before .before .before .before .before in
-    let the-put =
-    the-before
-    .before .before .before .before .before .before .before .before .put in
-    let the-c = c .before .before .before .before .before .before .before .before .before .before .before .before .before .c in
+    let at-c = c .before .before .before .before .before .before .before .before .before .before .before .before .before in
+    let the-put = at-c .before .before .before .before .before .before .before .before .before .put in
+    let the-c = at-c .c in
     let the-refresh = c .before .before .before .before .before .refresh in
     let the-broad = c .before .before .before .before .before .before .broad in
     let the-r = c .before .r in

@@ -2,7 +2,7 @@
 use native.Mathlib.Omega.{arith}
 use mathlib.Core.Path.{ap}
 use lib.ListN.{length-take}
-use Rattle.routes.proofs.Asking.{refusalOf}
+use Rattle.asks.proofs.Asking.{refusalOf}
 use Rattle.refresh.proofs.Putting.{opens-to, asked-few, put-closed, put-refused, put-changed}
 use borrow.Author.Needs.{needs}
 use Rattle.refresh.proofs.put.put.Statement.{statement}
@@ -120,16 +120,10 @@ same-length-3 c = search needs
 
 returns-4 : tie.Need-returns-4
 returns-4 c =
-    let the-before = c .before .before .before .before .before .before .before .before .before .before .before .before .before .before in
-    let the-asked2 = c .before .before .before .before .before .before .before .before .before .before .before .before .before .asked in
-    let the-opened =
-    the-before
-    .before .before .before .opened in
-    let the-plan =
-    the-before
-    .before .plan in
-    let the-asked =
-    the-asked2 in
+    let at-plan = c .before .before .before .before .before .before .before .before .before .before .before .before .before .before .before in
+    let the-opened = at-plan .before .before .opened in
+    let the-plan = at-plan .plan in
+    let the-asked = c .before .before .before .before .before .before .before .before .before .before .before .before .before .asked in
     let the-enum-told3 = c .before .before .before .before .before .before .before .before .before .before .before .enum-told3 in
     let the-rescore = c .before .before .before .before .before .before .rescore in
     put-changed _ _ _ (the-opened .ensures) (the-plan .given .1) (the-asked .ensures) (the-enum-told3 .given .1) (the-rescore .ensures)

@@ -27,11 +27,10 @@ enum-known-report c = search needs
 
 score-of-requires-2 : tie.Need-score-of-requires-2
 score-of-requires-2 c κs =
-    let the-before = c .before .before .before .before .before .before .before .before .before .before .before .before .before .before in
-    let start =
-    the-before
-    .before .before .before .before .before .before .before .before .before .before .before .before .before in
-    let the-change = c .before .before .before .before .before .before .before .before .before .before .before .change in
+    let at-change = c .before .before .before .before .before .before .before .before .before .before .before in
+    let at-score-of = at-change .before .before .before .before .before .before .before in
+    let start = at-score-of .before .before .before .before .before .before .before .before .before in
+    let the-change = at-change .change in
     let p = start .pre in
     let k = the-change .kept in
     omega arith
@@ -44,15 +43,11 @@ enum-known-after c = search needs
 
 minus-requires : tie.Need-minus-requires
 minus-requires c κs =
+    let at-change = c .before .before .before .before .before .before .before .before .before .before .before .before .before .before .before in
     let the-after = c .before .after in
     let the-score-of2 = c .before .before .before .score-of2 in
-    let the-before = c .before .before .before .before .before .before .before .before .before .before .before .before .before .before in
-    let the-before2 =
-    the-before
-    .before .before .before .before .before .before .before2 in
-    let the-score-of =
-    the-before
-    .before .before .before .before .before .before .before .before .score-of in
+    let the-before2 = at-change .before .before .before .before .before .before2 in
+    let the-score-of = at-change .before .before .before .before .before .before .before .score-of in
     let x = subst Mild (the-after .given .1) (the-score-of2 .ensures .within) in
     let y = subst Mild (the-before2 .given .1) (the-score-of .ensures .within) in
     search needs
@@ -82,14 +77,11 @@ same-length-5 c = search needs
 
 returns-2 : tie.Need-returns-2
 returns-2 c =
-    let the-before = c .before .before .before .before .before .before .before .before .before .before .before .before .before .before in
-    let start =
-    the-before
-    .before .before .before .before .before .before .before .before .before .before .before in
-    let the-score-of =
-    the-before
-    .before .before .score-of in
-    let the-change = c .before .before .before .before .before .before .before .before .before .change in
+    let at-change = c .before .before .before .before .before .before .before .before .before in
+    let at-score-of = at-change .before .before .before .before .before .before .before in
+    let start = at-score-of .before .before .before .before .before .before .before .before .before in
+    let the-score-of = at-score-of .score-of in
+    let the-change = at-change .change in
     let the-r2 = c .before .r2 in
     let cut = start .pre .0 in
     rescore-refused cut (the-score-of .ensures .is) (the-change .ensures) (the-r2 .given .1)
@@ -105,17 +97,11 @@ same-length-8 c = search needs
 
 returns-3 : tie.Need-returns-3
 returns-3 c =
-    let the-before = c .before .before .before .before .before .before .before .before .before .before .before .before .before .before in
-    let start =
-    the-before
-    .before .before .before .before .before .before .before .before .before .before .before .before .before .before
-    .before .before .before in
-    let the-change =
-    the-before
-    .before .change in
-    let the-score-of =
-    the-before
-    .before .before .before .before .before .before .before .before .score-of in
+    let at-change = c .before .before .before .before .before .before .before .before .before .before .before .before .before .before .before in
+    let at-score-of = at-change .before .before .before .before .before .before .before in
+    let start = at-score-of .before .before .before .before .before .before .before .before .before in
+    let the-change = at-change .change in
+    let the-score-of = at-score-of .score-of in
     let the-score-of2 = c .before .before .before .score-of2 in
     let the-report = c .before .before .before .before .before .before .before .report in
     let the-r3 = c .before .r3 in
@@ -136,22 +122,16 @@ same-length-11 c = search needs
 
 returns-4 : tie.Need-returns-4
 returns-4 c =
-    let the-before = c .before .before .before .before .before .before .before .before .before .before .before .before .before .before in
-    let start =
-    the-before
-    .before .before .before .before .before .before .before .before .before .before .before .before .before .before
-    .before .before .before .before in
-    let the-change =
-    the-before
-    .before .before .change in
-    let the-score-of =
-    the-before
-    .before .before .before .before .before .before .before .before .before .score-of in
+    let at-report = c .before .before .before .before .before .before .before .before in
+    let at-change = at-report .before .before .before .before .before .before .before .before in
+    let at-before2 = at-change .before .before .before .before .before in
+    let at-score-of = at-before2 .before .before in
+    let start = at-score-of .before .before .before .before .before .before .before .before .before in
+    let the-change = at-change .change in
+    let the-score-of = at-score-of .score-of in
     let the-score-of2 = c .before .before .before .before .score-of2 in
-    let the-report = c .before .before .before .before .before .before .before .before .report in
-    let the-before2 =
-    the-before
-    .before .before .before .before .before .before .before .before2 in
+    let the-report = at-report .report in
+    let the-before2 = at-before2 .before2 in
     let the-after = c .before .before .after in
     let the-minus = c .minus in
     let cut = start .pre .0 in

@@ -56,7 +56,8 @@ array-share-prefix-durations c = search needs
 slice-aggregate-load : tie.Need-slice-aggregate-load
 slice-aggregate-load c =
     let at = c .before .before .before .before .before .before .before .before .before in
-    sym (length-take-le _ _ (at .before .before .before .before .before .before .before .before .before .before .spans-at .ensures))
+    let the-spans-at = at .before .before .before .before .before .before .before .before .before .before .spans-at in
+    sym (length-take-le _ _ (the-spans-at .ensures))
 
 array-share-prefix-expected : tie.Need-array-share-prefix-expected
 array-share-prefix-expected c = search needs
@@ -64,7 +65,8 @@ array-share-prefix-expected c = search needs
 slice-aggregate-load-2 : tie.Need-slice-aggregate-load-2
 slice-aggregate-load-2 c =
     let at = c .before .before .before .before .before .before .before .before .before in
-    sym (length-take-le _ _ (at .before .before .before .before .before .before .before .jobs-at .ensures))
+    let the-jobs-at = at .before .before .before .before .before .before .before .jobs-at in
+    sym (length-take-le _ _ (the-jobs-at .ensures))
 
 array-share-prefix-from : tie.Need-array-share-prefix-from
 array-share-prefix-from c = search needs
@@ -72,7 +74,8 @@ array-share-prefix-from c = search needs
 slice-aggregate-load-3 : tie.Need-slice-aggregate-load-3
 slice-aggregate-load-3 c =
     let at = c .before .before .before .before .before .before .before .before .before in
-    sym (length-take-le _ _ (at .before .before .before .before .jobs-at2 .ensures))
+    let the-jobs-at2 = at .before .before .before .before .jobs-at2 in
+    sym (length-take-le _ _ (the-jobs-at2 .ensures))
 
 array-share-prefix-to : tie.Need-array-share-prefix-to
 array-share-prefix-to c = search needs

@@ -18,7 +18,9 @@ array-share-prefix-list : tie.Need-array-share-prefix-list
 array-share-prefix-list c = search needs
 
 slice-aggregate-put : tie.Need-slice-aggregate-put
-slice-aggregate-put c = sym (length-take-le _ _ (c .before .before .before .before .before .before .jobs-at .ensures))
+slice-aggregate-put c =
+    let the-jobs-at = c .before .before .before .before .before .before .jobs-at in
+    sym (length-take-le _ _ (the-jobs-at .ensures))
 
 put-requires : tie.Need-put-requires
 put-requires c κs = search needs

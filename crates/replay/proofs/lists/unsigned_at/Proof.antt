@@ -16,7 +16,9 @@ enum-told : tie.Need-enum-told
 enum-told c = search needs
 
 returns : tie.Need-returns
-returns c = (rw (c .before .before .v .given .1) at (c .before .before .before .before .number .ensures)) .0
+returns c =
+    let the-number = c .before .before .before .before .number in
+    (rw (c .before .before .v .given .1) at (the-number .ensures)) .0
 
 returns-2 : tie.Need-returns-2
 returns-2 c = search needs

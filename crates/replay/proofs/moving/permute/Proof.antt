@@ -24,7 +24,9 @@ array-share-prefix-by : tie.Need-array-share-prefix-by
 array-share-prefix-by c = search needs
 
 slice-aggregate-permutation : tie.Need-slice-aggregate-permutation
-slice-aggregate-permutation c = sym (length-take-le _ _ (c .before .before .before .before .before .jobs-at .ensures))
+slice-aggregate-permutation c =
+    let the-jobs-at = c .before .before .before .before .before .jobs-at in
+    sym (length-take-le _ _ (the-jobs-at .ensures))
 
 permutation-requires : tie.Need-permutation-requires
 permutation-requires c κs = search needs

@@ -39,31 +39,41 @@ slice-relend-prefix-answer-to : tie.Need-slice-relend-prefix-answer-to
 slice-relend-prefix-answer-to c = search needs
 
 slice-aggregate-answer-to : tie.Need-slice-aggregate-answer-to
-slice-aggregate-answer-to c = sym (length-take-le _ _ (c .before .before .before .before .before .before .cut .ensures))
+slice-aggregate-answer-to c =
+    let the-cut = c .before .before .before .before .before .before .cut in
+    sym (length-take-le _ _ (the-cut .ensures))
 
 slice-relend-prefix-answer-to-2 : tie.Need-slice-relend-prefix-answer-to-2
 slice-relend-prefix-answer-to-2 c = search needs
 
 slice-aggregate-answer-to-2 : tie.Need-slice-aggregate-answer-to-2
-slice-aggregate-answer-to-2 c = sym (length-take-le _ _ (c .before .before .before .before .before .before .cut2 .ensures))
+slice-aggregate-answer-to-2 c =
+    let the-cut2 = c .before .before .before .before .before .before .cut2 in
+    sym (length-take-le _ _ (the-cut2 .ensures))
 
 slice-relend-prefix-answer-to-3 : tie.Need-slice-relend-prefix-answer-to-3
 slice-relend-prefix-answer-to-3 c = search needs
 
 slice-aggregate-answer-to-3 : tie.Need-slice-aggregate-answer-to-3
-slice-aggregate-answer-to-3 c = sym (length-take-le _ _ (c .before .before .before .before .before .before .cut3 .ensures))
+slice-aggregate-answer-to-3 c =
+    let the-cut3 = c .before .before .before .before .before .before .cut3 in
+    sym (length-take-le _ _ (the-cut3 .ensures))
 
 slice-relend-prefix-answer-to-4 : tie.Need-slice-relend-prefix-answer-to-4
 slice-relend-prefix-answer-to-4 c = search needs
 
 slice-aggregate-answer-to-4 : tie.Need-slice-aggregate-answer-to-4
-slice-aggregate-answer-to-4 c = sym (length-take-le _ _ (c .before .before .before .before .before .before .cut4 .ensures))
+slice-aggregate-answer-to-4 c =
+    let the-cut4 = c .before .before .before .before .before .before .cut4 in
+    sym (length-take-le _ _ (the-cut4 .ensures))
 
 slice-relend-prefix-answer-to-5 : tie.Need-slice-relend-prefix-answer-to-5
 slice-relend-prefix-answer-to-5 c = search needs
 
 slice-aggregate-answer-to-5 : tie.Need-slice-aggregate-answer-to-5
-slice-aggregate-answer-to-5 c = sym (length-take-le _ _ (c .before .before .before .before .before .before .cut5 .ensures))
+slice-aggregate-answer-to-5 c =
+    let the-cut5 = c .before .before .before .before .before .before .cut5 in
+    sym (length-take-le _ _ (the-cut5 .ensures))
 
 answer-to-requires : tie.Need-answer-to-requires
 answer-to-requires c κs = search needs

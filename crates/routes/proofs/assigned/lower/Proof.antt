@@ -2,7 +2,6 @@
 use Rattle.routes.proofs.Tallying.{one-far, none-left, one-less}
 use native.Mathlib.Omega.{arith}
 use mathlib.Core.Bool.{false}
-use Rattle.routes.proofs.Tallying.{one-far}
 use borrow.Author.Needs.{needs}
 use Rattle.routes.proofs.assigned.lower.Statement.{statement}
 use Rattle.routes.proofs.assigned.lower.Tie as tie

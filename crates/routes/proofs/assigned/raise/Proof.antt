@@ -3,7 +3,6 @@ use Rattle.routes.proofs.Tallying.{one-far, all-there, one-more}
 use Prim.Native.Nat.{_+_}
 use native.Mathlib.Omega.{arith}
 use mathlib.Core.Bool.{true}
-use Rattle.routes.proofs.Tallying.{one-far}
 use borrow.Author.Needs.{needs}
 use Rattle.routes.proofs.assigned.raise.Statement.{statement}
 use Rattle.routes.proofs.assigned.raise.Tie as tie

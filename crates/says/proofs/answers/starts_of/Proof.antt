@@ -1,14 +1,15 @@
 -- `starts_of`: one field less to write at each turn. Assumes nothing.
 use Prim.Native.Nat.{_-_}
+use Rattle.text.specs.Grammar.{fieldsOf}
 use mathlib.Core.Path.{refl}
-use Rattle.says.proofs.Turns.{Listing, list-start, list-turn, list-done}
+use Rattle.says.proofs.Rows.{Rows, rows-start, rows-turn, rows-done}
 use native.Mathlib.Omega.{arith}
 use borrow.Author.Needs.{needs}
 use Rattle.says.proofs.answers.starts_of.Statement.{statement}
 use Rattle.says.proofs.answers.starts_of.Tie as tie
 
 abbrev Inv-loop : tie.InvT-loop
-Inv-loop out₀ at list n p₀ i₀ out p i = Listing list n out₀ at out p i
+Inv-loop out₀ at list n p₀ i₀ out p i = Rows fieldsOf 21 list n out₀ at out p i
 
 abbrev μ-loop : tie.MeasureT-loop
 μ-loop out₀ at list n p₀ i₀ out p i = n - i
@@ -16,7 +17,7 @@ abbrev μ-loop : tie.MeasureT-loop
 loop-holds : tie.Need-loop-holds Inv-loop μ-loop
 loop-holds c =
     let args = c .before .before .args in
-    list-start (args .list .now) (args .n) (args .out .now) (args .at)
+    rows-start fieldsOf 21 (args .list .now) (args .n) (args .out .now) (args .at)
 
 mul-number : tie.Need-mul-number Inv-loop μ-loop
 mul-number c = search needs
@@ -43,13 +44,13 @@ loop-again c =
     let at-test = at-number .before .before .before in
     let at-loop = at-test .before in
     let start = at-loop .before .before .before in
-    list-turn (at-loop .loop .inv) (at-test .loop-test .taken) (start .pre .0) refl (at-number .number .ensures)
+    rows-turn (at-loop .loop .inv) (λ l. refl) 0 (at-test .loop-test .taken) (start .pre .0) refl (at-number .number .ensures)
 
 same-length : tie.Need-same-length Inv-loop μ-loop
 same-length c = c .before .loop .inv .turning .long
 
 returns : tie.Need-returns Inv-loop μ-loop
-returns c = list-done (c .before .loop .inv) (c .loop-test .left)
+returns c = rows-done (c .before .loop .inv) refl (c .loop-test .left)
 
 pub starts-of-spec : {M : Type 1} → statement M
 starts-of-spec =

@@ -14,7 +14,8 @@ use Rattle.text.specs.Grammar.{fitsOf}
 use Rattle.stores.specs.Promise.{Slices}
 use Rattle.opens.specs.Opens.{fitted}
 use Rattle.opens.proofs.Counts.{count-is, none-is}
-use Rattle.serves.specs.Serves.{upTo, Asks, puts, cuts, shows, crits, Answers}
+use Rattle.crits.specs.Answers.{upTo, Answers}
+use Rattle.serves.specs.Serves.{Asks, puts, cuts, shows, crits}
 use Rattle.serves.specs.Parts.{Asked}
 use borrow.Author.Needs.{needs}
 use Rattle.serves.proofs.calls.call.Statement.{statement}

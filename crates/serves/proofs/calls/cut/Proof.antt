@@ -3,7 +3,7 @@ use native.Mathlib.Omega.{arith}
 use mathlib.Core.Path.{refl}
 use Rattle.rules.specs.Calls.{to-retract}
 use Rattle.stores.specs.Says.{saysEnded}
-use Rattle.serves.proofs.Answering.{answered}
+use Rattle.crits.proofs.Answering.{answered}
 use borrow.Author.Needs.{needs}
 use Rattle.serves.proofs.calls.cut.Statement.{statement}
 use Rattle.serves.proofs.calls.cut.Tie as tie

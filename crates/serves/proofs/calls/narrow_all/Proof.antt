@@ -7,7 +7,7 @@ use lib.ListN.{length, drop, length-set}
 use lib.Seq.{sets}
 use borrow.Author.Needs.{needs}
 use Rattle.opens.specs.Opens.{fitted}
-use Rattle.serves.proofs.Filling.{map-turn, map-done}
+use Rattle.crits.proofs.Filling.{map-turn, map-done}
 use Rattle.serves.proofs.calls.narrow_all.Statement.{statement}
 use Rattle.serves.proofs.calls.narrow_all.Tie as tie
 

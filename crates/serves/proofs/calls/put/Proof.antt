@@ -9,8 +9,8 @@ use Rattle.rules.specs.Calls.{Reply, to-put}
 use Rattle.refresh.specs.Changes.{saysChanged}
 use Rattle.stores.specs.Promise.{Slices, Promise}
 use Rattle.opens.specs.Opens.{fitted}
-use Rattle.serves.proofs.Answering.{answered}
-use Rattle.serves.proofs.Filling.{map-front}
+use Rattle.crits.proofs.Answering.{answered}
+use Rattle.crits.proofs.Filling.{map-front}
 use borrow.Author.Needs.{needs}
 use Rattle.serves.proofs.calls.put.Statement.{statement}
 use Rattle.serves.proofs.calls.put.Tie as tie

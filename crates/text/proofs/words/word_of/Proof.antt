@@ -120,7 +120,10 @@ returns-9 c =
     let the-begins7 = c .before .before .before .before .begins7 in
     let the-if8 = c .if8 in
     let the-begins8 = c .before .begins8 in
-    word-none (start .args .line .now) (rw (the-if1 .left) at (the-begins .ensures)) (rw (the-if2 .left) at (the-begins2 .ensures)) (rw (the-if3 .left) at (the-begins3 .ensures)) (rw (the-if4 .left) at (the-begins4 .ensures)) (rw (the-if5 .left) at (the-begins5 .ensures)) (rw (the-if6 .left) at (the-begins6 .ensures)) (rw (the-if7 .left) at (the-begins7 .ensures)) (rw (the-if8 .left) at (the-begins8 .ensures))
+    word-none (start .args .line .now) (rw (the-if1 .left) at (the-begins .ensures)) (rw (the-if2 .left) at (the-begins2 .ensures))
+    (rw (the-if3 .left) at (the-begins3 .ensures)) (rw (the-if4 .left) at (the-begins4 .ensures))
+    (rw (the-if5 .left) at (the-begins5 .ensures)) (rw (the-if6 .left) at (the-begins6 .ensures))
+    (rw (the-if7 .left) at (the-begins7 .ensures)) (rw (the-if8 .left) at (the-begins8 .ensures))
 
 pub word-of-spec : {M : Type 1} → statement M
 word-of-spec =

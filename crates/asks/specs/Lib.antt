@@ -1,0 +1,3 @@
+-- What the contracts of `asks` cite. Assumes nothing.
+pub mod Snapped
+pub mod Asks

@@ -1,2 +1,0 @@
--- What the calls for C promise. Assumes nothing.
-pub mod Numbers

@@ -1,0 +1,4 @@
+-- Laws that belong to no one function. Assumes nothing.
+pub mod Answering
+pub mod Filling
+pub mod Replies

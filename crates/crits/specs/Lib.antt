@@ -1,0 +1,2 @@
+-- What the contracts of `crits` cite. Assumes nothing.
+pub mod Answers

@@ -1,0 +1,2 @@
+// `crit`: the critical blocks of all owners, printed.
+pub mod critical;

@@ -1,0 +1,19 @@
+-- Laws that belong to no one function. Assumes nothing.
+pub mod Linking
+pub mod Seating
+pub mod Matching
+pub mod Often
+pub mod Differing
+pub mod Trimmed
+pub mod Turning
+pub mod Sweeping
+pub mod OneRow
+pub mod Lasts
+pub mod OneByOne
+pub mod Relisting
+pub mod Whole
+pub mod Bridged
+pub mod Closing
+pub mod Common
+pub mod Swapping
+pub mod Codes

@@ -1,0 +1,2 @@
+-- What the contract of `finds` cites. Assumes nothing.
+pub mod Finds

@@ -1,0 +1,3 @@
+-- What the contracts of `pulls` cite. Assumes nothing.
+pub mod Pulls
+pub mod Fulls

@@ -1,0 +1,3 @@
+-- What the contracts of `reroutes` cite. Assumes nothing.
+pub mod Pieces
+pub mod Stopping

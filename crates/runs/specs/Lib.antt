@@ -1,0 +1,3 @@
+-- What the contracts of `runs` cite. Assumes nothing.
+pub mod Arcs
+pub mod Overs

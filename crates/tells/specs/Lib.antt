@@ -1,0 +1,2 @@
+-- What the contracts of `tells` cite. Assumes nothing.
+pub mod Numbers

@@ -1,0 +1,2 @@
+-- What the contracts of `walks` cite. Assumes nothing.
+pub mod Walks
