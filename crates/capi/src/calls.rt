@@ -1,18 +1,18 @@
 // The calls of layer 3. Each asks for room for the numbers first (13), then hands everything on.
-use loads::load::load;
+use refresh::load::load;
 use refresh::put::Changed;
 use refresh::put::put;
+use refresh::reset::Ended;
+use refresh::reset::reset;
+use refresh::retract::retract;
+use refresh::score::Counted;
+use refresh::score::Scored;
+use refresh::score::score;
+use refresh::starts::Started;
+use refresh::starts::starts;
 use refresh::verdict::Judged;
 use refresh::verdict::verdict;
 use rules::Owner;
-use stores::reset::Ended;
-use stores::reset::reset;
-use stores::retract::retract;
-use stores::score::Counted;
-use stores::score::Scored;
-use stores::score::score;
-use stores::starts::Started;
-use stores::starts::starts;
 use tells::numbers::code;
 use tells::numbers::lacks_room;
 use tells::numbers::tell;

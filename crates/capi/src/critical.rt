@@ -1,6 +1,6 @@
 // The critical blocks. The lent list of records makes this the one call that is walked by hand, so it hands everything on: what is tested and
 // told has a function of its own.
-use blocks::blocks::blocks;
+use moves::blocks;
 use rules::Block;
 use tells::numbers::lacks_room;
 use tells::numbers::told_blocks;

@@ -1,15 +1,15 @@
 // A put: waiting owners give up their routes in turn, then the owner's route becomes the new one.
-use asks::snap::snapshot;
-use exchanges::difference::links_of;
-use exchanges::exchange::Swap;
-use exchanges::exchange::exchange;
 use routes::assigned::assign;
 use routes::assigned::unassign;
+use routes::difference::links_of;
+use routes::exchange::Swap;
+use routes::exchange::exchange;
 use routes::rows::Done;
 use routes::rows::Span;
 use routes::rows::put_route;
 use routes::rows::span_of;
 use routes::rows::wide;
+use routes::snap::snapshot;
 use routes::wait::Sum;
 use routes::wait::clear;
 use routes::wait::freed;

@@ -1,7 +1,7 @@
 // A put: score after minus score before, and the report.
-use asks::ask::Ask;
-use asks::ask::asked;
 use puts::put::Outcome;
+use routes::ask::Ask;
+use routes::ask::asked;
 use rules::Owner;
 use rules::Plan;
 use rules::Refusal;

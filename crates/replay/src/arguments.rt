@@ -11,8 +11,8 @@ use crate::lists::fields;
 use crate::lists::least;
 use crate::moving::Kind;
 use crate::moving::make;
-use stores::reset::reset;
-use stores::retract::retract;
+use refresh::reset::reset;
+use refresh::retract::retract;
 
 // What a line is, by its first letters.
 pub enum Ask {

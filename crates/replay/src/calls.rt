@@ -13,16 +13,16 @@ use crate::lists::jobs_at;
 use crate::lists::room_at;
 use crate::lists::small;
 use crate::lists::spans_at;
-use blocks::blocks::Blocked;
 use finds::found::find;
+use moves::Blocked;
 use refresh::put::Changed;
+use refresh::reset::Ended;
+use refresh::score::Counted;
+use refresh::score::Scored;
+use refresh::starts::Started;
 use refresh::verdict::Judged;
 use rules::Owner;
 use rules::Score;
-use stores::reset::Ended;
-use stores::score::Counted;
-use stores::score::Scored;
-use stores::starts::Started;
 
 pub fn owner_of(args: &[i64]) -> Owner {
     Owner(small(get(args, 0)))
@@ -51,7 +51,7 @@ pub fn load(
     let f = jobs_at(args, q, &mut from);
     let r = after(args, q);
     let t = jobs_at(args, r, &mut to);
-    match loads::load::load(
+    match refresh::load::load(
         base,
         spans,
         edges,
@@ -109,7 +109,7 @@ pub fn score(
     times: &[u64],
     out: &mut [i64],
 ) -> usize {
-    match stores::score::score(base, spans, edges, routes, times) {
+    match refresh::score::score(base, spans, edges, routes, times) {
         Counted::Refused(r) => refused(out, r),
         Counted::Is(s, k) => counted(out, s, k),
     }
@@ -162,7 +162,7 @@ pub fn starts_call(
 ) -> usize {
     let mut list = [0u64; 1024];
     let room = room_at(args, 0);
-    let answer = stores::starts::starts(base, spans, edges, routes, times, &mut list[..room]);
+    let answer = refresh::starts::starts(base, spans, edges, routes, times, &mut list[..room]);
     started(answer, &list, out)
 }
 

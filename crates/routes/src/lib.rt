@@ -7,6 +7,12 @@
 //   1729         how many owners wait
 //   1730..1794   waiting     in the order they began to wait, then zeros
 // Any contents are safe: what makes no sense is answered by `Bad`.
+// What a put asks and what becomes of its edges stand in crates beneath; here is the whole layer.
+pub use asks::ask;
+pub use asks::snap;
+pub use exchanges::difference;
+pub use exchanges::exchange;
+
 pub mod assigned;
 pub mod rows;
 pub mod wait;

@@ -2,12 +2,12 @@
 use crate::shows::show;
 use crits::critical::crit;
 use refresh::put::Changed;
+use refresh::reset::Ended;
+use refresh::retract::retract;
 use rules::Owner;
 use rules::Score;
 use says::answers::no;
 use says::answers::ok;
-use stores::reset::Ended;
-use stores::retract::retract;
 use text::words::Word;
 use text::writes::narrow;
 ghost use Prim.Native.Nat.{_≤_};

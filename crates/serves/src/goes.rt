@@ -1,9 +1,9 @@
 // `go`: what was typed is loaded. More pairs than the library takes, and durations that are too many, reach it as they are.
-use loads::load::load;
 use opens::steps::Typed;
+use refresh::load::load;
+use refresh::score::Scored;
 use says::answers::no;
 use says::answers::ok;
-use stores::score::Scored;
 use text::writes::narrow;
 ghost use Prim.Native.Nat.{_≤_};
 ghost use lib.ListN.{length};

@@ -1,11 +1,11 @@
 // `show`: the score, then the cycle, or the starts and the line-up.
+use refresh::score::Counted;
+use refresh::starts::Started;
 use refresh::verdict::Judged;
 use refresh::verdict::verdict;
 use says::answers::jobs;
 use says::answers::no;
 use says::answers::score;
-use stores::score::Counted;
-use stores::starts::Started;
 ghost use Prim.Native.Nat.{_+_, _≤_};
 ghost use lib.ListN.{length};
 ghost use Rattle.rules.specs.Calls.{to-score};
@@ -29,7 +29,7 @@ fn starts(
         (now (out .entry)) at r (now (out .exit)) ⌝ }
 {
     let mut list = [0u64; 512];
-    match stores::starts::starts(base, spans, edges, routes, times, &mut list) {
+    match refresh::starts::starts(base, spans, edges, routes, times, &mut list) {
         Started::Refused(r) => no(out, at, r),
         Started::All(k) => says::answers::starts(out, at, b"starts", &list, k),
     }
@@ -75,7 +75,7 @@ pub fn show(
         (slices (now (base .entry)) (now (spans .entry)) (now (edges .entry)) (now (routes .entry)) (now (times .entry)))
         (now (out .entry)) r (now (out .exit)) ⌝ }
 {
-    match stores::score::score(base, spans, edges, routes, times) {
+    match refresh::score::score(base, spans, edges, routes, times) {
         Counted::Refused(r) => no(out, 0, r),
         Counted::Is(s, _) => {
             let p = score(out, s);
