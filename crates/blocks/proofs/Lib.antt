@@ -5,4 +5,3 @@ pub mod Searching
 pub mod Again
 pub mod Chains
 pub mod Unique
-pub mod Historied

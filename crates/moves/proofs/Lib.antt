@@ -2,3 +2,4 @@
 pub mod Promised
 pub mod Positions
 pub mod Unique
+pub mod Historied
