@@ -15,27 +15,28 @@ use Rattle.rules.specs.declared.Block.{Block}
 use Rattle.rules.specs.declared.Plan.{Plan as Header·Plan}
 use Rattle.rules.specs.declared.Refusal.{Refusal}
 use Rattle.rules.specs.declared.Refusal.the-variants.{NotLoaded, ShortAnswer, ShortStore, BadStore}
-use Rattle.rules.specs.Lists.{tick}
+use Rattle.rules.specs.Lists.{tick, memb}
+use Rattle.rules.specs.Refusals.{numberOf}
 use Rattle.rules.specs.Sizes.{isShort}
 use Rattle.rules.specs.Routes.{Plan, State}
 use Rattle.rules.specs.Scores.{isCyclic}
 use Rattle.rules.specs.Blocks.{arc, blocks, critical}
-use Rattle.rules.specs.Calls.{accepted, blocked, refusal, to-blocks}
+use Rattle.rules.specs.Calls.{accepted, blocked, refused, refusal, to-blocks}
 use Rattle.rules.proofs.Ranges.{Test, pass, fail, test}
 use Rattle.rules.proofs.Runs.{blocks-cyclic}
 use Rattle.routes.specs.Desks.{edgesOf}
 use Rattle.stores.specs.declared.header.Header.{Header}
 use Rattle.stores.specs.declared.header.Header.the-variants.{Is as Headed, Refused as Unopened}
 use Rattle.stores.specs.Headers.{openOf, countsOf}
-use Rattle.stores.specs.Promise.{Slices, lentOf, callOf, Held, StandsFor}
+use Rattle.stores.specs.Promise.{Slices, lentOf, callOf, Held, StandsFor, Heeds}
 use Rattle.stores.proofs.Openings.{open-is, open-none, open-short, open-some}
-use Rattle.stores.proofs.Promises.{decided-read, decided-refused, refusal-long, refusal-short}
+use Rattle.stores.proofs.Promises.{decided-read, decided-refused, refusal-long, refusal-short, heeds-first, heeds-later}
 use Rattle.stores.proofs.Readings.{times-starts}
 use Rattle.stores.proofs.Scores.{timed as times-told}
 use Rattle.blocks.specs.Latests.{Criticals}
 use Rattle.runs.specs.Arcs.{Told}
 use Rattle.runs.specs.Overs.{Counted, Stepped, ahead}
-use Rattle.blocks.specs.Searches.{Calm, LeadsIn, Finds, Counts, Searched, Moved, answerTo, countTo}
+use Rattle.blocks.specs.Searches.{Calm, LeadsIn, Finds, Counts, Refuses, Searched, Moved, answerTo, countTo}
 use Rattle.blocks.specs.Promise.{BlocksDecided, BlocksPromise, records, saysBlocked}
 use Rattle.blocks.specs.declared.critical.Marked.{Marked}
 use Rattle.blocks.specs.declared.critical.Marked.the-variants.{Fine, Bad as Broken}
@@ -52,6 +53,12 @@ use Rattle.blocks.proofs.Calming.{ahead-is, lined, rows, timed, told}
 -- nothing is to be written
 abbrev pub Nothing : Search → Blocked → Type 0
 Nothing f a = (f .count ≡ 0) × (f .answer ≡ a)
+
+are-refuses : (f : Search) {k : ℕ} → f .answer ≡ Are k → Refuses f
+are-refuses f a j q = absurd (let y : _≡_ {A = ℕ} 0 1 = cc in omega arith)
+
+nothing-refuses : (f : Search) {r : Refusal} → memb (numberOf r) (12 ∷ 10 ∷ []) ≡ true → Nothing f (Refused r) → Refuses f
+nothing-refuses f {r} m (z, a) j q = let i : r ≡ j = cc in (z, rw i at m)
 
 -- a list without blocks is in room
 finds-none : {e l sp st os : List ℕ} (room : ℕ) (bs : List Block) {f : Search} → bs ≡ [] → Nothing f (Are 0)
@@ -72,9 +79,10 @@ module _ {e l sp st : List ℕ} {top n all : ℕ} {c c′ : List ℕ} {r : Marke
   told-by p C = let (o, L) = lined C in told C c′ (K .marked (edgesOf p) (timed C) o L .1)
 
 module _ {e l sp st os : List ℕ} {top n all room : ℕ} where
-  none-counts : {f : Search} → f .count ≡ 0 → ((p : Plan) → Calm e l sp st top n all p
+  none-counts : {f : Search} → f .count ≡ 0 → Refuses f → ((p : Plan) → Calm e l sp st top n all p
       → (f .answer ≡ answerTo room (blocks p os)) × (countTo room (blocks p os) ≡ 0)) → Counts e l sp st os top n all room f
-  none-counts z g = record {
+  none-counts z n g = record {
+    refuses = n;
     few = omega arith;
     ready = λ h. absurd (omega arith);
     is = λ p C. record { answer = g p C .0; count = z ∙ sym (g p C .1); leads = λ h. absurd (omega arith) };
@@ -82,17 +90,17 @@ module _ {e l sp st os : List ℕ} {top n all room : ℕ} where
 
   module _ {c c′ : List ℕ} {r : Marked} (K : Criticals e sp st top n c r c′) where
     pub counted-bad : r ≡ Broken → {f : Search} → Nothing f (Refused BadStore) → Counts e l sp st os top n all room f
-    counted-bad q (z, a) = none-counts z (λ p C. absurd (unlike (sym (fine K p C) ∙ q)))
+    counted-bad q {f} (z, a) = none-counts z (nothing-refuses f refl (z, a)) (λ p C. absurd (unlike (sym (fine K p C) ∙ q)))
       where
         unlike : Fine ≡ Broken → ⊥
         unlike x = let y : _≡_ {A = ℕ} 0 1 = cc in omega arith
 
     module _ {q : Number} (N : Counted e l sp st c′ os all n room q) where
       pub counted-lost : q ≡ NoNumber → {f : Search} → Nothing f (Refused BadStore) → Counts e l sp st os top n all room f
-      counted-lost x (z, a) = none-counts z (λ p C. absurd (rw x at (N .is (edgesOf p) (critical p) (arc p) (told-by K p C) (rows C))))
+      counted-lost x {f} (z, a) = none-counts z (nothing-refuses f refl (z, a)) (λ p C. absurd (rw x at (N .is (edgesOf p) (critical p) (arc p) (told-by K p C) (rows C))))
 
       pub counted-more : q ≡ More → {f : Search} → Nothing f (Refused ShortAnswer) → Counts e l sp st os top n all room f
-      counted-more x (z, a) = none-counts z (λ p C.
+      counted-more x {f} (z, a) = none-counts z (nothing-refuses f refl (z, a)) (λ p C.
           let k : room < length (ahead (critical p) (arc p) l all 0 os) =
           (rw x at (N .is (edgesOf p) (critical p) (arc p) (told-by K p C) (rows C))) in
           let b = lt-ltb room (length (blocks p os)) (rw (ahead-is C os) at k) in
@@ -101,6 +109,7 @@ module _ {e l sp st os : List ℕ} {top n all room : ℕ} where
       pub counted-all : {k : ℕ} → q ≡ Is k → n ≤ 512 → all ≤ 64 → length c′ ≡ 512
           → Counts e l sp st os top n all room (record { crit = c′; jobs = n; owners = all; count = k; answer = Are k })
       counted-all {k} x hn ha hc = record {
+        refuses = are-refuses (record { crit = c′; jobs = n; owners = all; count = k; answer = Are k }) refl;
         few = w;
         ready = λ h. (hn, ha, hc);
         is = λ p C.
@@ -145,6 +154,7 @@ unclosed s opens is r q = absurd (opens-not (sym is ∙ opens ∙ q))
 module _ (s : Slices) {os : List ℕ} {room : ℕ} {h : Header} (opens : h ≡ openOf (lentOf s) (s .base)) where
   pub searched-closed : {r : Refusal} → h ≡ Unopened r → {f : Search} → Nothing f (Refused r) → Searched s os room f
   searched-closed {r} q (z, a) = record {
+    refuses = λ c y. absurd (opens-not (sym y ∙ sym opens ∙ q));
     few = omega arith;
     ready = λ k. absurd (omega arith);
     closed = λ x y. let i : r ≡ x = cc in (z, a ∙ ap Refused i);
@@ -152,20 +162,20 @@ module _ (s : Slices) {os : List ℕ} {room : ℕ} {h : Header} (opens : h ≡ o
   }
 
   module _ {plan : Header·Plan} (is : h ≡ Headed plan) where
-    none-searched : {f : Search} → f .count ≡ 0
+    none-searched : {f : Search} → f .count ≡ 0 → Refuses f
         → (isShort (lentOf s) ≡ false → (p : Plan) → Held s p
         → Finds (take 13314 (s .edges)) (take 1794 (s .routes)) (take 512 (s .spans)) (take 512 (drop 2 (s .times))) os room (blocks p os) f)
         → Searched s os room f
-    none-searched z g = record { few = omega arith; ready = λ k. absurd (omega arith); closed = λ r q. unclosed s opens is r q; is = g }
+    none-searched z n g = record { refuses = λ c y. n; few = omega arith; ready = λ k. absurd (omega arith); closed = λ r q. unclosed s opens is r q; is = g }
 
     pub searched-cyclic : {x : ℕ} → x ≡ getD (s .times) 0 0 → x ≡ 1 → {f : Search} → Nothing f (Are 0) → Searched s os room f
-    searched-cyclic ex q N = none-searched (N .0) (λ k p H.
+    searched-cyclic ex q {f} N = none-searched (N .0) (are-refuses f (N .1)) (λ k p H.
         finds-none room (blocks p os)
         (blocks-cyclic p os (cyclic-is (isCyclic p) (sym q ∙ ex ∙ times-told p (s .times) (H .times) .0))) N)
 
     pub searched-bad : {x : ℕ} → x ≡ getD (s .times) 0 0 → (x ≡ 1 → ⊥) → (x ≡ 0 → ⊥) → {f : Search} → Nothing f (Refused BadStore)
         → Searched s os room f
-    searched-bad {x} ex q w N = none-searched (N .0) (λ k p H. absurd (go (isCyclic p) (ex ∙ times-told p (s .times) (H .times) .0)))
+    searched-bad {x} ex q w {f} N = none-searched (N .0) (nothing-refuses f refl N) (λ k p H. absurd (go (isCyclic p) (ex ∙ times-told p (s .times) (H .times) .0)))
       where
         go : (b : Bool) → x ≡ tick b 0 → ⊥
         go true z = q z
@@ -175,6 +185,7 @@ module _ (s : Slices) {os : List ℕ} {room : ℕ} {h : Header} (opens : h ≡ o
         → Counts (take 13314 (s .edges)) (take 1794 (s .routes)) (take 512 (s .spans)) (take 512 (drop 2 (s .times))) os top n (plan .owners)
         room f → Searched s os room f
     searched-calm {x} ex q {top} {n} et en {f} K = record {
+      refuses = λ c y. K .refuses;
       few = K .few;
       ready = λ k.
           let o = open-is _ _ _ (sym opens ∙ is) in
@@ -334,8 +345,21 @@ module _ {s : Slices} {os : List ℕ} {ys : List Block} {f : Search} (S : Search
           (blocked (blocks p os)) refl refl in
           rw (a, y) (record { says = d .says; leaves = d .leaves; answers = filled (blocks p os) z w })
 
+  says-refused : (a : Blocked) (k : Refusal) → saysBlocked zs a ≡ refused k → a ≡ Refused k
+  says-refused (Are n) k e = absurd (let y : _≡_ {A = ℕ} 0 1 = cc in omega arith)
+  says-refused (Refused r) k e = cc
+
+  -- of any contents
+  heeding : (h : Header) → h ≡ openOf (lentOf s) (s .base) → Heeds (to-blocks os (length ys)) s s ys zs (saysBlocked zs (f .answer))
+  heeding (Unopened r) e =
+      let (z, a) = S .closed r (sym e) in
+      rw (a, same-list z) (heeds-first (to-blocks os (length ys)) s e ys refl)
+  heeding (Headed c) e = heeds-later (to-blocks os (length ys)) s e refl
+      (λ k q. S .refuses c (sym e) k (says-refused (f .answer) k q) .1)
+      (λ k q n. (refl, same-list (S .refuses c (sym e) k (says-refused (f .answer) k q) .0)))
+
   pub kept : BlocksPromise os s s ys zs (saysBlocked zs (f .answer))
-  kept = record { decides = λ t h. go t h (test (isShort (lentOf s))) }
+  kept = record { decides = λ t h. go t h (test (isShort (lentOf s))); heeds = heeding (openOf (lentOf s) (s .base)) refl }
     where
       go : (t : State) → StandsFor s t → Test (isShort (lentOf s)) → BlocksDecided t os s s ys zs (saysBlocked zs (f .answer))
       go t h (pass x) =

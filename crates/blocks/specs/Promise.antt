@@ -10,7 +10,7 @@ use Rattle.rules.specs.Lists.{table}
 use Rattle.rules.specs.Routes.{State}
 use Rattle.rules.specs.Calls.{Call, Reply, refused, scored, changed, counted, lined-up, cycled, started, blocked, rerouted, reply, to-blocks}
 use Rattle.rules.specs.Blocks.{noBlock}
-use Rattle.stores.specs.Promise.{Slices, StandsFor, callOf, after}
+use Rattle.stores.specs.Promise.{Slices, StandsFor, callOf, after, Heeds}
 use Rattle.blocks.specs.declared.blocks.Blocked.{Blocked}
 use Rattle.blocks.specs.declared.blocks.Blocked.the-variants.{Are, Refused}
 
@@ -45,6 +45,7 @@ pub record BlocksDecided (t : State) (os : List ℕ) (s s′ : Slices) (out out�
   pub leaves : s′ ≡ after t (blocksCall os s out) s
   pub answers : out′ ≡ sets out 0 (blocksIn r)
 
--- of every state that the store stands for
+-- of every state that the store stands for, and of any contents
 pub record BlocksPromise (os : List ℕ) (s s′ : Slices) (out out′ : List Block) (r : Reply) : Type 0 where
   pub decides : (t : State) → StandsFor s t → BlocksDecided t os s s′ out out′ r
+  pub heeds : Heeds (to-blocks os (length out)) s s′ out out′ r

@@ -1,14 +1,16 @@
 -- The search for a list of owners' blocks that a store's words lead to. Assumes nothing.
 use Prim.Native.Nat.{ℕ, _≤_, _<_}
 use mathlib.Core.Path.{_≡_}
-use mathlib.Core.Bool.{Bool, false, cond}
-use mathlib.Core.List.{List, _∷_}
+use mathlib.Core.Bool.{Bool, true, false, cond}
+use mathlib.Core.List.{List, [], _∷_}
 use lib.ListN.{length, take, drop}
 use lib.Dec.{ltb}
 use Rattle.rules.specs.declared.Block.{Block}
 use Rattle.rules.specs.declared.Refusal.{Refusal}
 use Rattle.rules.specs.declared.Refusal.the-variants.{ShortAnswer}
-use Rattle.rules.specs.Lists.{table}
+use Rattle.rules.specs.declared.Plan.{Plan as Header·Plan}
+use Rattle.rules.specs.Lists.{memb, table}
+use Rattle.rules.specs.Refusals.{numberOf}
 use Rattle.rules.specs.Sizes.{mostJobs, isShort}
 use Rattle.rules.specs.Graphs.{Graph}
 use Rattle.rules.specs.Routes.{Plan}
@@ -18,7 +20,7 @@ use Rattle.edges.specs.Edges.{Model}
 use Rattle.graphs.specs.Graph.{live}
 use Rattle.routes.specs.Desks.{Desked}
 use Rattle.times.specs.Words.{spanWords, startOf}
-use Rattle.stores.specs.declared.header.Header.the-variants.{Refused as Unopened}
+use Rattle.stores.specs.declared.header.Header.the-variants.{Is as Headed, Refused as Unopened}
 use Rattle.stores.specs.Headers.{openOf}
 use Rattle.stores.specs.Promise.{Slices, lentOf, Held}
 use Rattle.runs.specs.Arcs.{Told}
@@ -60,11 +62,16 @@ pub record Finds (e l sp st os : List ℕ) (room : ℕ) (bs : List Block) (f : S
   pub count : f .count ≡ countTo room bs
   pub leads : 0 < f .count → Leads e l sp st os f 0 0 bs
 
+-- what is refused is 10 or 12, and nothing is to be written
+abbrev pub Refuses : Search → Type 0
+Refuses f = (k : Refusal) → f .answer ≡ Refused k → (f .count ≡ 0) × (memb (numberOf k) (12 ∷ 10 ∷ []) ≡ true)
+
 -- what `counted` answers
 pub record Counts (e l sp st os : List ℕ) (top n all room : ℕ) (f : Search) : Type 0 where
   pub few : f .count ≤ room
   pub ready : 0 < f .count → (f .jobs ≤ 512) × (f .owners ≤ 64) × (length (f .crit) ≡ 512)
   pub is : (p : Plan) → Calm e l sp st top n all p → Finds e l sp st os room (blocks p os) f
+  pub refuses : Refuses f
 
 -- the same of a store's slices, which may be longer
 abbrev pub LeadsIn : List ℕ → List ℕ → List ℕ → List ℕ → List ℕ → Search → ℕ → ℕ → List Block → Type 0
@@ -87,6 +94,8 @@ pub record Searched (s : Slices) (os : List ℕ) (room : ℕ) (f : Search) : Typ
   pub closed : (r : Refusal) → openOf (lentOf s) (s .base) ≡ Unopened r → (f .count ≡ 0) × (f .answer ≡ Refused r)
   pub is : isShort (lentOf s) ≡ false → (p : Plan) → Held s p
       → Finds (take 13314 (s .edges)) (take 1794 (s .routes)) (take 512 (s .spans)) (take 512 (drop 2 (s .times))) os room (blocks p os) f
+  -- of any contents that open
+  pub refuses : (c : Header·Plan) → openOf (lentOf s) (s .base) ≡ Headed c → Refuses f
 
 -- where there is a next block, it is taken, and the search goes on behind it
 pub record Moved (sp e l ts os : List ℕ) (f : Search) (at r : Spot) : Type 0 where

@@ -17,7 +17,7 @@ use Rattle.rules.specs.Calls.{Reply, accepted, refused, rerouted, to-move}
 use Rattle.rules.specs.Graphs.{Graph}
 use Rattle.rules.specs.Lists.{Pair, allBelow, isZero, keep, memb, tick, times}
 use Rattle.rules.specs.Moves.{Move, fullCheck, goodPositions, isFixed, isMovedCyclic, isMovedQuick, moved, movedOn, movedStays, newRoute, occurs, quickCheck}
-use Rattle.rules.specs.Refusals.{firstOf, isBroken, noOwner, noPositions, tooFew}
+use Rattle.rules.specs.Refusals.{numberOf, firstOf, isBroken, noOwner, noPositions, tooFew}
 use Rattle.rules.specs.Routes.{Plan, Stop, emptyRoute, jobsOf, routeOf}
 use Rattle.rules.specs.Scores.{isCyclic}
 use Rattle.rules.specs.Sizes.{Base, falls, isShort, mostFixed, mostOwners, pairUp}
@@ -29,14 +29,14 @@ use Rattle.routes.specs.Store.{Holds as RoutesHold, Model, routeAt}
 use Rattle.graphs.proofs.Kahn.{memb-later, memb-self}
 use Rattle.times.proofs.Graphing.{below, live-fun}
 use Rattle.stores.specs.Headers.{openOf, countsOf}
-use Rattle.stores.specs.Promise.{Decided, Held, Promise, Slices, answerOf, lentOf}
+use Rattle.stores.specs.Promise.{Heeds, Decided, Held, Promise, Slices, answerOf, lentOf}
 use Rattle.stores.specs.Says.{places}
 use Rattle.stores.specs.Words.{baseWords, froms, padded, tos}
 use Rattle.stores.specs.declared.header.Header.{Header}
 use Rattle.stores.specs.declared.header.Header.the-variants.{Is as Headed, Refused as Unopened}
 use Rattle.loads.proofs.Laying.{padded-length}
 use Rattle.stores.proofs.Openings.{open-short, open-some}
-use Rattle.stores.proofs.Promises.{closed-kept, decided-read, decided-refused, opened-kept, refusal-long}
+use Rattle.stores.proofs.Promises.{closed-kept, decided-read, decided-refused, opened-kept, refusal-long, heeds-first, heeds-later}
 use Rattle.stores.proofs.Scores.{timed}
 use Rattle.stores.proofs.Tabled.{part-slice, places-take, table-at, taken-sets}
 use Rattle.moves.specs.Calls.{Answers, Begins, Finishes, Judges, Opens, Places, Route, Words, saysMoved}
@@ -196,24 +196,32 @@ module _ {base e tms : List ℕ} {plan : Counts} {p : Plan} (W : Words base e tm
 
 -- ── what the code answers ──
 
+bad-twelve : (j : Refusal) → Refused BadStore ≡ Refused j → j ≡ BadStore
+bad-twelve j e = cc
+
 counted : {base e tms : List ℕ} {plan : Counts} {p : Plan} {n : ℕ} → n ≡ plan .jobs → Words base e tms plan p → n ≡ p .base .jobs
 counted en W = en ∙ ap (λ (x : Counts). x .jobs) (W .counts)
 
 module _ {base e tms : List ℕ} {plan : Counts} {old new : List ℕ} {k : ℕ} {out : List ℕ} {n : ℕ} (en : n ≡ plan .jobs) where
-  pub judge-old : {b : Bool} {r : Moved} {out′ : List ℕ} → b ≡ allBelow n (take k old) → b ≡ false → Judges base e tms plan old new k out r out′
+  pub judge-old : {b : Bool} {out′ : List ℕ} → b ≡ allBelow n (take k old) → b ≡ false
+      → Judges base e tms plan old new k out (Refused BadStore) out′
   judge-old q f = record {
+    twelve = bad-twelve;
     is = λ p W o m R g w. clash (rw (counted en W) (old-low W R new m g w)) (sym q ∙ f);
   }
 
-  pub judge-new : {b : Bool} {r : Moved} {out′ : List ℕ} → b ≡ allBelow n (take k new) → b ≡ false → Judges base e tms plan old new k out r out′
+  pub judge-new : {b : Bool} {out′ : List ℕ} → b ≡ allBelow n (take k new) → b ≡ false
+      → Judges base e tms plan old new k out (Refused BadStore) out′
   judge-new q f = record {
+    twelve = bad-twelve;
     is = λ p W o m R g w. clash (rw (counted en W) (new-low W R new m g w)) (sym q ∙ f);
   }
 
   module _ {fixed : ℕ} {was : Bool} {c : Checked} (ef : fixed ≡ plan .fixed) (ew : was ≡ not (eqb (getD tms 0 0) 0))
       (C : Checks base fixed e old new k n was c) where
-    pub judge-bad : {r : Moved} {out′ : List ℕ} → c ≡ Bad → Judges base e tms plan old new k out r out′
+    pub judge-bad : {out′ : List ℕ} → c ≡ Bad → Judges base e tms plan old new k out (Refused BadStore) out′
     judge-bad q = record {
+      twelve = bad-twelve;
       is = λ p W o m R g w.
           let z = checks-are W R new m g w en ef ew C in
           let y : _≡_ {A = ℕ} 0 1 = cc in
@@ -223,6 +231,7 @@ module _ {base e tms : List ℕ} {plan : Counts} {old new : List ℕ} {k : ℕ} 
     pub judge-shown : {x y : Bool} {out′ : List ℕ} → c ≡ Checks-are x y → k ≤ length out → k ≤ length new → out′ ≡ sets out 0 (take k new)
         → Judges base e tms plan old new k out (Is k x y) out′
     judge-shown q room lent w′ = record {
+      twelve = λ j z. absurd (let y : _≡_ {A = ℕ} 0 1 = cc in omega arith);
       is = λ p W o m R g w. answers-are W R new m g w room lent w′ (sym q ∙ checks-are W R new m g w en ef ew C);
     }
 
@@ -269,16 +278,24 @@ module _ (s : Slices) (o : ℕ) {h : Header} (opens : h ≡ openOf (lentOf s) (s
 
   module _ {plan : Counts} (is : h ≡ Headed plan) where
     -- refused for what is true of every plan that the store stands for
-    refuses : {jobs : List ℕ} (r : Refusal) → ((p : Plan) → Held s p → plan ≡ countsOf (p .base) → (m : Move) (k : ℕ) → first p o m k ≡ some r)
+    refuses : {jobs : List ℕ} (r : Refusal) → ((m : Move) (out : List ℕ) → Heeds (to-move o m (length out)) s s out out (refused r)) → ((p : Plan) → Held s p → plan ≡ countsOf (p .base) → (m : Move) (k : ℕ) → first p o m k ≡ some r)
         → Begins s o jobs (Unready r)
-    refuses r f = record {
+    refuses r n f = record {
       is = λ m out. opened-kept (to-move o m (length out)) s opens s out out (refused r) is (λ g p H q.
           decided-refused (some p) (to-move o m (length out)) s out r
-          (refusal-long (some p) (to-move o m (length out)) s g ∙ f p H q m (length out)));
+          (refusal-long (some p) (to-move o m (length out)) s g ∙ f p H q m (length out)))
+          (n m out);
     }
 
+    -- a refusal that the header does not give
+    heeded : o < plan .owners → (r : Refusal) → memb (numberOf r) (12 ∷ 11 ∷ 8 ∷ 10 ∷ []) ≡ true → (m : Move) (out : List ℕ)
+        → Heeds (to-move o m (length out)) s s out out (refused r)
+    heeded w r y m out = heeds-later (to-move o m (length out)) s opens (rw (is, lt-leb (plan .owners) o w))
+        (λ k e. let z : r ≡ k = cc in rw z at y) (λ k e x. (refl, refl))
+
     pub begins-nobody : {jobs : List ℕ} {b : Bool} → b ≡ ltb o (plan .owners) → b ≡ false → Begins s o jobs (Unready NoSuchOwner)
-    begins-nobody e f = refuses NoSuchOwner (λ p H q m k. no-owner p o m k (rw q at (ltb-false o (plan .owners) (sym e ∙ f))))
+    begins-nobody e f = refuses NoSuchOwner (λ m out. heeds-first (to-move o m (length out)) s opens out
+        (rw (is, le-leb (plan .owners) o (ltb-false o (plan .owners) (sym e ∙ f))))) (λ p H q m k. no-owner p o m k (rw q at (ltb-false o (plan .owners) (sym e ∙ f))))
 
     module _ {b : Bool} (e : b ≡ ltb o (plan .owners)) (t : b ≡ true) (few : plan .owners ≤ 64) {w : ℕ} (ew : w ≡ o) where
       low : o < plan .owners
@@ -293,10 +310,10 @@ module _ (s : Slices) (o : ℕ) {h : Header} (opens : h ≡ openOf (lentOf s) (s
 
       module _ {jobs : List ℕ} {x : Stopped} (S : Stops (take 1794 (s .routes)) w x jobs) where
         pub begins-bad : x ≡ Lost → Begins s o jobs (Unready BadStore)
-        begins-bad y = refuses BadStore (λ p H q m k. absurd ((rw y at (S .is)) (routesOf p) (H .desk .routes)))
+        begins-bad y = refuses BadStore (heeded low BadStore refl) (λ p H q m k. absurd ((rw y at (S .is)) (routesOf p) (H .desk .routes)))
 
         pub begins-broken : x ≡ Broken → Begins s o jobs (Unready BrokenRoute)
-        begins-broken y = refuses BrokenRoute (λ p H q m k.
+        begins-broken y = refuses BrokenRoute (heeded low BrokenRoute refl) (λ p H q m k.
             broken p o m k (owner-of p q) (rw (route-at p) at ((rw y at (S .is)) (routesOf p) (H .desk .routes))))
 
         pub begins-of : {k : ℕ} → x ≡ Of k → Begins s o jobs (Ready plan k)
@@ -305,6 +322,7 @@ module _ (s : Slices) (o : ℕ) {h : Header} (opens : h ≡ openOf (lentOf s) (s
             record {
               is = record {
                 opens = sym opens ∙ is;
+                owned = low;
                 few = a;
                 is = λ p H.
                     let z = f (routesOf p) (H .desk .routes) in
@@ -336,6 +354,10 @@ owner-near {o} {w} {k} q e t h = let a = ltb-true o k (sym e ∙ t) in omega ari
 
 -- ── the call ──
 
+says-refused : (out : List ℕ) (r : Moved) (k : Refusal) → saysMoved out r ≡ refused k → r ≡ Refused k
+says-refused out (Is n q f) k e = absurd (let y : _≡_ {A = ℕ} 0 1 = cc in omega arith)
+says-refused out (Refused r) k e = cc
+
 pub ready : {s : Slices} {o : ℕ} {jobs : List ℕ} {x : Begun} {plan : Counts} {k : ℕ} → Begins s o jobs x → x ≡ Ready plan k → Opens s o jobs plan k
 ready B q = rw q at (B .is)
 
@@ -352,6 +374,7 @@ module _ (s : Slices) (o : ℕ) (m : Move) (out : List ℕ) {jobs : List ℕ} {x
           decided-refused (some p) (to-move o m (length out)) s out BadPositions
           (refusal-long (some p) (to-move o m (length out)) s g
           ∙ positions p o m (length out) (R .owner) (R .whole) (rw (R .long) at (sym (P .good) ∙ f))))
+          (heeded s o refl (ready B q .opens) (ready B q .owned) BadPositions refl m out)
 
       module _ (t : b ≡ true) {r : Moved} {out′ : List ℕ}
           (F : Finishes (s .base) (take 13314 (s .edges)) (s .times) plan jobs new k out r out′) where
@@ -384,6 +407,16 @@ module _ (s : Slices) (o : ℕ) (m : Move) (out : List ℕ) {jobs : List ℕ} {x
                   (sym (A .says));
             }
 
+        -- of any contents: 10 or 12
+        heeding : (length out < k) ⊎ (k ≤ length out) → Heeds (to-move o m (length out)) s s out out′ (saysMoved out′ r)
+        heeding (inl h) =
+            let (a, z) = F .few h in
+            rw (a, z) (heeded s o refl (ready B q .opens) (ready B q .owned) ShortAnswer refl m out)
+        heeding (inr h) = heeds-later (to-move o m (length out)) s {h = openOf (lentOf s) (s .base)} refl
+            (rw (ready B q .opens, lt-leb (plan .owners) o (ready B q .owned)))
+            (λ j e. let z = F .enough h .twelve j (says-refused out′ r j e) in rw z)
+            (λ j e n. absurd (n (F .enough h .twelve j (says-refused out′ r j e))))
+
         pub moved-finished : Promise (to-move o m (length out)) s s out out′ (saysMoved out′ r)
         moved-finished = opened-kept (to-move o m (length out)) s {h = openOf (lentOf s) (s .base)} refl s out out′ (saysMoved out′ r)
-            (ready B q .opens) (λ g p H c. decided g p H c (lt-or-le (length out) k))
+            (ready B q .opens) (λ g p H c. decided g p H c (lt-or-le (length out) k)) (heeding (lt-or-le (length out) k))

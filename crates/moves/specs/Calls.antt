@@ -6,7 +6,8 @@ use mathlib.Core.List.{List}
 use lib.ListN.{length, take}
 use lib.Seq.{sets}
 use Rattle.rules.specs.declared.Plan.{Plan as Counts}
-use Rattle.rules.specs.declared.Refusal.the-variants.{ShortAnswer}
+use Rattle.rules.specs.declared.Refusal.{Refusal}
+use Rattle.rules.specs.declared.Refusal.the-variants.{BadStore, ShortAnswer}
 use Rattle.rules.specs.Calls.{Reply, refused, rerouted, to-move}
 use Rattle.rules.specs.Moves.{Move, goodPositions, isMovedCyclic, isMovedQuick, moved, newRoute}
 use Rattle.rules.specs.Routes.{Plan, jobsOf, routeOf}
@@ -41,6 +42,7 @@ pub record Route (p : Plan) (o k : ℕ) (jobs : List ℕ) : Type 0 where
 -- of every plan that the store stands for
 pub record Opens (s : Slices) (o : ℕ) (jobs : List ℕ) (plan : Counts) (k : ℕ) : Type 0 where
   pub opens : openOf (lentOf s) (s .base) ≡ Headed plan
+  pub owned : o < plan .owners
   pub few : k ≤ 1024
   pub is : (p : Plan) → Held s p → Route p o k jobs
 
@@ -74,6 +76,8 @@ pub record Words (b e t : List ℕ) (plan : Counts) (p : Plan) : Type 0 where
   pub counts : plan ≡ countsOf (p .base)
 
 pub record Judges (base e times : List ℕ) (plan : Counts) (old new : List ℕ) (k : ℕ) (out : List ℕ) (r : Moved) (out′ : List ℕ) : Type 0 where
+  -- of any words: nothing is refused under another number
+  pub twelve : (j : Refusal) → r ≡ Refused j → j ≡ BadStore
   pub is : (p : Plan) → Words base e times plan p → (o : ℕ) (m : Move) → Route p o k old → goodPositions k m ≡ true
       → take k new ≡ moved m (take k old) → Answers p o m out r out′
 

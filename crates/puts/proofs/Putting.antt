@@ -118,7 +118,7 @@ module _ {o : ℕ} {s : List ℕ} {k i v : ℕ} {p : Plan} {l : List ℕ} (N : E
           few-came = let a = turned .came-few in let z = new-read .few in omega arith;
           few-went = let a = turned .went-few in let z = F .desked .sound .reads o .few in omega arith;
           few-gone = let a = F .few in let b = count-is in omega arith;
-          none-came = λ z. queues-empty (turned .fresh) (ownStage p o l .came) own-came z;
+          came-queued = ap (push []) came-read ∙ own-came [];
         }
       where
         both : {y z y′ z′ : ℕ} → swap.the-variants.Done (0 + y) z ≡ swap.the-variants.Done y′ z′ → (y′ ≡ y) × (z′ ≡ z)
@@ -205,11 +205,18 @@ module _ {r : List ℕ} {o k : ℕ} where
 
 -- ── the stops ──
 
+bad-seated : Bad ≡ NoRoom → ⊥
+bad-seated q = let y : _≡_ {A = ℕ} 0 1 = cc in omega arith
+
+done-seated : {x y z : ℕ} → Done x y z ≡ NoRoom → ⊥
+done-seated q = let y : _≡_ {A = ℕ} 0 1 = cc in omega arith
+
 module _ {r e : List ℕ} {o : ℕ} {s : List ℕ} {k i v : ℕ} {r₁ e₁ gone gone₁ : List ℕ} {b : sum.Sum}
     (A : AllEmptied r e o r₁ e₁ gone gone₁ b) where
   pub stops-never : {came went : List ℕ} → b ≡ sum.the-variants.Bad → StopsPut r e o s k i v r₁ e₁ came came went went gone gone₁ Bad
   stops-never q = record {
     within = tt;
+    seated = bad-seated;
     done = λ p l D N. absurd (let y : _≡_ {A = ℕ} 0 1 = clash-of (sym (A .freely p D .answer) ∙ q) in omega arith);
   }
     where
@@ -223,12 +230,13 @@ module _ {r e : List ℕ} {o : ℕ} {s : List ℕ} {k i v : ℕ} {r₁ e₁ gone
     freely p D = subst (Freely p o r₁ e₁ gone₁) q (A .freely p D)
 
     pub stops-bad : a ≡ swap.the-variants.Bad → StopsPut r e o s k i v r₂ e₂ came came₂ went went₂ gone gone₁ Bad
-    stops-bad z = record { within = tt; done = λ p l D N. own-never N (freely p D) T lw lc z }
+    stops-bad z = record { within = tt; seated = bad-seated; done = λ p l D N. own-never N (freely p D) T lw lc z }
 
     pub stops-done : {h c : ℕ} → a ≡ swap.the-variants.Done h c
         → StopsPut r e o s k i v r₂ e₂ came came₂ went went₂ gone gone₁ (Done c h g)
     stops-done {h} {c} z = record {
       within = (W .1, W .0, subst (λ (y : sum.Sum). SumWithin y (length gone)) q (A .within));
+      seated = done-seated;
       done = λ p l D N. put-done N (freely p D) T lw lc z;
     }
       where
@@ -272,6 +280,7 @@ module _ {n o : ℕ} {l expected out stops : List ℕ} {sn : Snap} (N : Snapped 
       within = tt;
       done = λ p Q z. done-bad (fine p Q z) q;
       full = λ p Q z. room-bad (full p Q z) q;
+      stays = λ q. absurd (bad-seated q);
     }
 
     pub put-full : a ≡ NoRoom → PutPromised r e expected n o l r e came came went went gone gone NoRoom
@@ -279,6 +288,7 @@ module _ {n o : ℕ} {l expected out stops : List ℕ} {sn : Snap} (N : Snapped 
       within = tt;
       done = λ p Q z. no-done (fine p Q z) q;
       full = λ p Q z. (refl, refl, refl);
+      stays = λ q. (refl, refl);
     }
 
     pub put-stops : {x y z i v : ℕ} → a ≡ Done x y z → length l ≤ mostEntries → length out ≡ mostEntries → i ≡ sn .invalid
@@ -290,6 +300,7 @@ module _ {n o : ℕ} {l expected out stops : List ℕ} {sn : Snap} (N : Snapped 
       within = T .within;
       done = λ p Q z. T .done p l (Q .desked) (entered p Q z);
       full = λ p Q z. no-done q (full p Q z);
+      stays = λ z. absurd (T .seated z);
     }
       where
         taken : take (sn .valid) stops ≡ words (read n l .stops)

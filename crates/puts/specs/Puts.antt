@@ -149,7 +149,7 @@ pub record PutDone (p : Plan) (o : ℕ) (l r′ e′ came′ went′ gone′ : L
   pub few-came : c ≤ mostEntries
   pub few-went : w ≤ mostEntries
   pub few-gone : g ≤ mostEntries
-  pub none-came : c ≡ 0 → ownStage p o l .came ≡ []
+  pub came-queued : push [] (take c came′) ≡ push [] (map headOf (ownStage p o l .came))
 
 -- the entries as k stops s, i invalid ones and v violations
 pub record Entered (p : Plan) (o : ℕ) (s : List ℕ) (k i v : ℕ) (l : List ℕ) : Type 0 where
@@ -163,6 +163,7 @@ pub record Entered (p : Plan) (o : ℕ) (s : List ℕ) (k i v : ℕ) (l : List �
 pub record StopsPut (r e : List ℕ) (o : ℕ) (s : List ℕ) (k i v : ℕ) (r′ e′ came came′ went went′ gone gone′ : List ℕ) (a : outcome.Outcome)
     : Type 0 where
   pub within : PutWithin a (length came) (length went) (length gone)
+  pub seated : a ≡ outcome.the-variants.NoRoom → ⊥
   pub done : (p : Plan) (l : List ℕ) → Desked r e p → Entered p o s k i v l → PutDone p o l r′ e′ came′ went′ gone′ a
 
 -- what a put is asked of a plan
@@ -179,3 +180,5 @@ pub record PutPromised (r e expected : List ℕ) (n o : ℕ) (l r′ e′ came c
       → PutDone p o l r′ e′ came′ went′ gone′ a
   pub full : (p : Plan) → Asked r e p expected n o → mostEntries < inForce (putPlan p o l .desk .routes)
       → (a ≡ outcome.the-variants.NoRoom) × (r′ ≡ r) × (e′ ≡ e)
+  -- of any words: without room nothing was written
+  pub stays : a ≡ outcome.the-variants.NoRoom → (r′ ≡ r) × (e′ ≡ e)

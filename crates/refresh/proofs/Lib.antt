@@ -4,3 +4,4 @@ pub mod Showing
 pub mod Putting
 pub mod Histories
 pub mod Unique
+pub mod Heeding

@@ -2,7 +2,8 @@
 use Prim.Native.Nat.{ℕ, _≤_, _<_}
 use native.Mathlib.Omega.{arith}
 use mathlib.Core.Path.{_≡_, refl, sym, ap, subst, _∙_}
-use mathlib.Core.Bool.{true, false}
+use mathlib.Core.Bool.{Bool, true, false, cond}
+use lib.Dec.{ltb, leb}
 use mathlib.Core.Option.{none, some}
 use mathlib.Core.Logic.{_⊎_, inl, inr, ⊎-elim}
 use mathlib.Core.List.{List, [], _∷_, _++_, append-assoc}
@@ -13,11 +14,11 @@ use Rattle.rules.specs.declared.Plan.{Plan as Counts}
 use Rattle.rules.specs.declared.Score.{Score}
 use Rattle.rules.specs.declared.Report.{Report}
 use Rattle.rules.specs.declared.Refusal.{Refusal}
-use Rattle.rules.specs.declared.Refusal.the-variants.{NoRoom}
-use Rattle.rules.specs.Lists.{Pair, table}
+use Rattle.rules.specs.declared.Refusal.the-variants.{NoRoom, BadStore, NoSuchOwner, TooManyEntries}
+use Rattle.rules.specs.Lists.{Pair, table, memb}
 use Rattle.rules.specs.Sizes.{Base, Lent, expectedOf, isShort, mostEntries, mostFixed, mostJobs, mostOwners, nobodys}
 use Rattle.rules.specs.Routes.{Plan, putPlan, inForce}
-use Rattle.rules.specs.Refusals.{Check, firstOf, noOwner, tooMany, noRoom}
+use Rattle.rules.specs.Refusals.{Check, firstOf, noOwner, tooMany, noRoom, numberOf}
 use Rattle.rules.specs.Scores.{invalidFixed, score, minusOf}
 use Rattle.rules.specs.Reports.{putReport}
 use Rattle.rules.specs.Calls.{changed, refused, to-put, refusal, accepted}
@@ -27,6 +28,7 @@ use Rattle.rules.proofs.Refused.{accepted-step}
 use Rattle.puts.specs.declared.put.Outcome as outcome
 use Rattle.asks.specs.declared.ask.Ask.{Ask}
 use Rattle.asks.specs.declared.ask.Ask.the-variants.{Fine}
+use Rattle.asks.specs.declared.ask.Ask.the-variants as asking
 use Rattle.asks.specs.Asks.{askOf}
 use Rattle.asks.specs.Snapped.{Stated}
 use Rattle.puts.specs.Puts.{Asked, PutPromised}
@@ -43,14 +45,14 @@ use Rattle.refresh.specs.declared.put.Changed.{Changed}
 use Rattle.refresh.specs.declared.put.Changed.the-variants.{By, Refused}
 use Rattle.stores.specs.Words.{baseWords, padded, froms, tos}
 use Rattle.stores.specs.Headers.{openOf, countsOf}
-use Rattle.stores.specs.Promise.{Slices, slices, lentOf, callOf, Held, holding, after, Decided, Promise}
+use Rattle.stores.specs.Promise.{checksBy, Heeds, Slices, slices, lentOf, callOf, Held, holding, after, Decided, Promise}
 use Rattle.stores.specs.Sums.{scoredAt}
 use Rattle.refresh.specs.Changes.{saysChanged, Worded, Puts, Follows, Changes}
 use Rattle.stores.proofs.Tabled.{table-at, part-slice}
 use Rattle.loads.proofs.Laying.{padded-length}
 use Rattle.stores.proofs.Openings.{Opened, open-is}
-use Rattle.stores.proofs.Promises.{closed-kept, opened-kept, decided-refused, refusal-long, held-same}
-use Rattle.stores.proofs.Scores.{scored-held}
+use Rattle.stores.proofs.Promises.{closed-kept, opened-kept, decided-refused, refusal-long, held-same, heeds-first, heeds-later}
+use Rattle.stores.proofs.Scores.{scored-held, scored-twelve}
 
 -- of two constructors that are said to be equal `cc` makes this
 never : {A : Type 0} → _≡_ {A = ℕ} 0 1 → A
@@ -102,20 +104,22 @@ module _ {base sp e r ts e′ r′ came came′ went went′ gone gone′ : List
   }
 
   -- a store that no calls could have left
-  pub follow-bad : a ≡ outcome.the-variants.Bad → {x : Followed} {s′ : Slices} → Follows (slices base sp e r ts) s′ n o l x
+  pub follow-bad : a ≡ outcome.the-variants.Bad → {s′ : Slices} → Follows (slices base sp e r ts) s′ n o l (Unfollowed BadStore)
   follow-bad q = record {
     done = λ p A h. let D = P .done p (asked p A) h .answer in never cc;
     full = λ p A h. let D = P .full p (asked p A) h .0 in never cc;
+    stays = λ k e. inl cc;
   }
 
   pub follow-full : a ≡ outcome.the-variants.NoRoom → Follows (slices base sp e r ts) (slices base sp e′ r′ ts) n o l (Unfollowed NoRoom)
   follow-full q = record {
     done = λ p A h. let D = P .done p (asked p A) h .answer in never cc;
     full = λ p A h. let (x, y, z) = P .full p (asked p A) h in (refl, rw (y, z));
+    stays = λ k e. inr (cc, let (y, z) = P .stays q in rw (y, z));
   }
 
   module _ {c w g m : ℕ} {x : settled.Settled} {ts′ : List ℕ} (q : a ≡ outcome.the-variants.Done c w g)
-      (R : Refreshes e′ sp ts (take c came′ ++ (take w went′ ++ take g gone′)) c m x ts′) (j : m ≡ n) where
+      (R : Refreshes e′ sp ts (take c came′ ++ (take w went′ ++ take g gone′)) (take c came′) m x ts′) (j : m ≡ n) where
     refreshed : (p : Plan) → Puts (slices base sp e r ts) n o l p → (h : inForce (putPlan p o l .desk .routes) ≤ mostEntries)
         → Refreshed p o l x ts′
     refreshed p A h =
@@ -132,15 +136,16 @@ module _ {base sp e r ts e′ r′ came came′ went went′ gone gone′ : List
           edges = D .desked .edges;
           spans = A .worded .spans;
           jobs = j ∙ A .jobs;
-        }) (A .worded .times) (rw (k, i, f) at (D .queued)) (rw k at (D .none-came))
+        }) (A .worded .times) (rw (k, i, f) at (D .queued)) (rw k at (D .came-queued))
 
     no-full : (p : Plan) → Puts (slices base sp e r ts) n o l p → mostEntries < inForce (putPlan p o l .desk .routes) → ⊥
     no-full p A h = let d = P .full p (asked p A) h .0 in never cc
 
-    pub follow-lost : x ≡ settled.the-variants.Bad → {y : Followed} {s′ : Slices} → Follows (slices base sp e r ts) s′ n o l y
+    pub follow-lost : x ≡ settled.the-variants.Bad → {s′ : Slices} → Follows (slices base sp e r ts) s′ n o l (Unfollowed BadStore)
     follow-lost y = record {
       done = λ p A h. let d = refreshed p A h .report in never cc;
       full = λ p A h. absurd (no-full p A h);
+      stays = λ k e. inl cc;
     }
 
     pub follow-done : {report : Report} → x ≡ settled.the-variants.Is report
@@ -156,6 +161,7 @@ module _ {base sp e r ts e′ r′ came came′ went went′ gone gone′ : List
         };
       };
       full = λ p A h. absurd (no-full p A h);
+      stays = λ k e. never cc;
     }
 
 -- ── the scores around it ──
@@ -186,10 +192,11 @@ module _ {s : Slices} {n o : ℕ} {l : List ℕ} (C : Cut s) {a : scored.Scored}
   before-is : (p : Plan) → Puts s n o l p → a ≡ scored.the-variants.Is (score p)
   before-is p A = scored-worded C q p (A .jobs) (A .worded)
 
-  pub rescore-bad : {r : Refusal} → a ≡ scored.the-variants.Refused r → {x : Changed} {s′ : Slices} → Changes s s′ n o l x
-  rescore-bad e = record {
+  pub rescore-bad : {r : Refusal} → a ≡ scored.the-variants.Refused r → {s′ : Slices} → Changes s s′ n o l (Refused r)
+  rescore-bad {r} e = record {
     done = λ p A h. let b = before-is p A in never cc;
     full = λ p A h. let b = before-is p A in never cc;
+    stays = λ k f. let z : r ≡ BadStore = scored-twelve _ _ _ _ q e in inl cc;
   }
 
   module _ {s′ : Slices} {f : Followed} (F : Follows s s′ n o l f) where
@@ -197,6 +204,7 @@ module _ {s : Slices} {n o : ℕ} {l : List ℕ} (C : Cut s) {a : scored.Scored}
     rescore-refused {r} e = record {
       done = λ p A h. let d = F .done p A h .reports in never cc;
       full = λ p A h. let (d, k) = F .full p A h in let z : r ≡ NoRoom = cc in (ap Refused z, k);
+      stays = λ k f. let z : r ≡ k = cc in F .stays k (e ∙ ap Unfollowed z);
     }
 
     module _ (C′ : Cut s′) {b : scored.Scored} (q′ : b ≡ scoredAt (s′ .base) (s′ .routes) (s′ .times) n) {report : Report}
@@ -209,10 +217,11 @@ module _ {s : Slices} {n o : ℕ} {l : List ℕ} (C : Cut s) {a : scored.Scored}
       followed-full : (p : Plan) → Puts s n o l p → mostEntries < inForce (putPlan p o l .desk .routes) → ⊥
       followed-full p A h = let d = F .full p A h .0 in never cc
 
-      pub rescore-lost : {r : Refusal} → b ≡ scored.the-variants.Refused r → {x : Changed} → Changes s s′ n o l x
-      rescore-lost k = record {
+      pub rescore-lost : {r : Refusal} → b ≡ scored.the-variants.Refused r → Changes s s′ n o l (Refused r)
+      rescore-lost {r} k = record {
         done = λ p A h. let d = after-is p A h in never cc;
         full = λ p A h. absurd (followed-full p A h);
+        stays = λ j f. let z : r ≡ BadStore = scored-twelve _ _ _ _ q′ k in inl cc;
       }
 
       pub rescore-done : {x y z : Score} → a ≡ scored.the-variants.Is x → b ≡ scored.the-variants.Is y → z ≡ minusOf y x
@@ -228,9 +237,15 @@ module _ {s : Slices} {n o : ℕ} {l : List ℕ} (C : Cut s) {a : scored.Scored}
             let rr : report ≡ putReport p o l = cc in
             record { says = rw (m, rx, ry, rr); worded = D .worded };
         full = λ p A h. absurd (followed-full p A h);
+        stays = λ j f. never cc;
       }
 
 -- ── the call ──
+
+-- a put that says a refusal is one
+says-refused : (x : Changed) (k : Refusal) → saysChanged x ≡ refused k → x ≡ Refused k
+says-refused (By s r) k e = never cc
+says-refused (Refused r) k e = cc
 
 first-more : (l m : List Check) (r : Refusal) → firstOf l ≡ some r → firstOf (l ++ m) ≡ some r
 first-more [] m r e = never cc
@@ -249,6 +264,12 @@ ask-fine-is n o k e = go (lt-or-le o n) (lt-or-le mostEntries k)
     go (inl x) (inr y) = (x, y)
     go (inl x) (inl y) = let q = ask-many n o k x y in never cc
     go (inr x) y = let q = ask-owner n o k x in never cc
+
+ask-counts : (a b : Bool) → refusalOf (cond a asking.NoSuchOwner (cond b asking.TooManyEntries Fine))
+    ≡ firstOf ((NoSuchOwner, a) ∷ (TooManyEntries, b) ∷ [])
+ask-counts true b = refl
+ask-counts false true = refl
+ask-counts false false = refl
 
 -- what a put that is not refused so far may hand on
 pub asked-few : (j n o k : ℕ) {a : Ask} → j ≤ mostJobs → n ≤ mostOwners → a ≡ askOf n o k → a ≡ Fine
@@ -295,11 +316,16 @@ module _ (s : Slices) (o : ℕ) (l : List ℕ) {h : Header} (opens : h ≡ openO
     asked-first : (p : Plan) → plan ≡ countsOf (p .base) → refusalOf a ≡ firstOf (noOwner p o ∷ tooMany l ∷ [])
     asked-first p q = ap refusalOf (asks ∙ ap (λ (c : Counts). askOf (c .owners) o (length l)) q) ∙ ask-is p o l
 
+    -- as the header's counts say
+    asked-counts : refusalOf a ≡ firstOf (checksBy plan (to-put o l))
+    asked-counts = ap refusalOf asks ∙ ask-counts (leb (plan .owners) o) (ltb mostEntries (length l))
+
     pub put-refused : {r : Refusal} → refusalOf a ≡ some r → Promise (to-put o l) s s [] [] (refused r)
     put-refused {r} e = opened-kept (to-put o l) s opens s [] [] (refused r) is (λ f p H q.
         decided-refused (some p) (to-put o l) s [] r
         (refusal-long (some p) (to-put o l) s f
         ∙ first-more (noOwner p o ∷ tooMany l ∷ []) (noRoom p o l ∷ []) r (sym (asked-first p q) ∙ e)))
+        (heeds-first (to-put o l) s opens [] (rw is (sym asked-counts ∙ e)))
 
     module _ (fine : a ≡ Fine) {x : Changed} {e r ts : List ℕ}
         (X : Changes (cut s) (slices (s .base) (take 512 (s .spans)) e r ts) (plan .jobs) o l x) where
@@ -345,6 +371,21 @@ module _ (s : Slices) (o : ℕ) (l : List ℕ) {h : Header} (opens : h ≡ openO
             answers = rw (X .done p may-put room .says);
           }
 
+      -- 12, or 7 and nothing was written
+      put-heeds : Heeds {A = ℕ} (to-put o l) s (glued s left) [] [] (saysChanged x)
+      put-heeds = heeds-later (to-put o l) s opens (rw is (sym asked-counts ∙ ap refusalOf fine))
+          (λ k e. number k (X .stays k (says-refused x k e)))
+          (λ k e n. (same k n (X .stays k (says-refused x k e)), refl))
+        where
+          number : (k : Refusal) → (k ≡ BadStore) ⊎ ((k ≡ NoRoom) × (left ≡ cut s)) → memb (numberOf k) (12 ∷ 7 ∷ []) ≡ true
+          number k (inl q) = rw q
+          number k (inr (q, w)) = rw q
+
+          same : (k : Refusal) → (k ≡ BadStore → ⊥) → (k ≡ BadStore) ⊎ ((k ≡ NoRoom) × (left ≡ cut s)) → glued s left ≡ s
+          same k n (inl q) = absurd (n q)
+          same k n (inr (q, w)) = ap (glued s) w ∙ glued-same s
+
       pub put-changed : Promise (to-put o l) s (glued s left) [] [] (saysChanged x)
       put-changed = opened-kept (to-put o l) s opens (glued s left) [] [] (saysChanged x) is (λ f p H q.
           ⊎-elim (no-room f p H q) (with-room f p H q) (lt-or-le mostEntries (inForce (putPlan p o l .desk .routes))))
+          put-heeds

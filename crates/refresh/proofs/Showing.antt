@@ -10,7 +10,7 @@ use lib.Seq.{sets, length-sets, length-take-le}
 use borrow.Author.Tests.{lt-ltb, le-ltb}
 use Rattle.rules.specs.declared.Plan.{Plan as Counts}
 use Rattle.rules.specs.declared.Refusal.{Refusal}
-use Rattle.rules.specs.declared.Refusal.the-variants.{ShortAnswer}
+use Rattle.rules.specs.declared.Refusal.the-variants.{ShortAnswer, BadStore}
 use Rattle.rules.specs.Sizes.{isShort}
 use Rattle.rules.specs.Routes.{Plan}
 use Rattle.rules.specs.Shown.{order, cycle, shownLineUp, shownCycle}
@@ -28,17 +28,25 @@ use Rattle.searches.specs.Cycles.{Cycles, Looped}
 use Rattle.stores.specs.declared.header.Header.{Header}
 use Rattle.stores.specs.declared.header.Header.the-variants.{Is as Headed, Refused as Unopened}
 use Rattle.refresh.specs.declared.verdict.Judged.{Judged}
-use Rattle.refresh.specs.declared.verdict.Judged.the-variants.{LineUp, Cycle}
+use Rattle.refresh.specs.declared.verdict.Judged.the-variants.{LineUp, Cycle, Refused}
 use Rattle.stores.specs.Headers.{openOf}
 use Rattle.stores.specs.Promise.{Slices, lentOf, Held, answerOf, Decided, Promise}
 use Rattle.stores.specs.Says.{places}
 use Rattle.refresh.specs.Shows.{saysVerdict, Showing, Shows, Closing}
 use Rattle.stores.proofs.Tabled.{places-take, taken-sets}
-use Rattle.stores.proofs.Promises.{decided-refused, refusal-long, decided-read, closed-kept, opened-kept}
+use Rattle.stores.proofs.Promises.{decided-refused, refusal-long, decided-read, closed-kept, opened-kept, heeds-first, heeds-later}
 use Rattle.times.proofs.Graphing.{below}
 use Rattle.times.proofs.Judging.{order-is, cycle-is}
 
 -- ── what is shown ──
+
+bad-twelve : (k : Refusal) → Refused BadStore ≡ Refused k → k ≡ BadStore
+bad-twelve k e = cc
+
+says-refused : (out : List ℕ) (v : Judged) (k : Refusal) → saysVerdict out v ≡ refused k → v ≡ Refused k
+says-refused out (LineUp n) k e = absurd (let z : _≡_ {A = ℕ} 0 1 = cc in omega arith)
+says-refused out (Cycle n) k e = absurd (let z : _≡_ {A = ℕ} 0 1 = cc in omega arith)
+says-refused out (Refused r) k e = cc
 
 -- the answer buffer begins with what was written
 placed : (out l : List ℕ) (k : ℕ) → k ≤ length l → k ≤ length out → places k (sets out 0 (take k l)) ≡ take k l
@@ -68,11 +76,11 @@ module _ {e o′ : List ℕ} {n : ℕ} {r : Tail} (C : Cycles e n r o′) (out :
         let y : places (suc k) out′ ≡ take (suc k) o′ = ap (places (suc k)) w ∙ placed out o′ (suc k) (omega arith) i in
         record { says = rw (x, cycle-shown _ L) (ap cycled y); answers = w ∙ ap (sets out 0) (sym y) }
 
-  pub closing-bad : r ≡ Lost → {v : Judged} {out′ : List ℕ} → Closing e n out v out′
-  closing-bad q = record { is = λ p S H j x. absurd (rw q at (looped p S H j)) }
+  pub closing-bad : r ≡ Lost → {out′ : List ℕ} → Closing e n out (Refused BadStore) out′
+  closing-bad q = record { twelve = bad-twelve; is = λ p S H j x. absurd (rw q at (looped p S H j)) }
 
-  pub closing-long : (k : ℕ) → r ≡ Upto k → n < k → {v : Judged} {out′ : List ℕ} → Closing e n out v out′
-  closing-long k q h = record { is = λ p S H j x. absurd (go (edgesOf p) k h (looped-at p S H j k q)) }
+  pub closing-long : (k : ℕ) → r ≡ Upto k → n < k → {out′ : List ℕ} → Closing e n out (Refused BadStore) out′
+  closing-long k q h = record { twelve = bad-twelve; is = λ p S H j x. absurd (go (edgesOf p) k h (looped-at p S H j k q)) }
     where
       go : (m : Model) (k : ℕ) → n < k → Looped m n o′ (Upto k) → ⊥
       go m zero h L = omega arith
@@ -81,6 +89,7 @@ module _ {e o′ : List ℕ} {n : ℕ} {r : Tail} (C : Cycles e n r o′) (out :
   pub closing-shown : (k : ℕ) → r ≡ Upto k → k ≤ n → n ≤ 512 → n ≤ length out → length o′ ≡ 512 → {out′ : List ℕ}
       → out′ ≡ sets out 0 (take k o′) → Closing e n out (Cycle k) out′
   closing-shown k q h i l len w = record {
+    twelve = λ j e. absurd (let z : _≡_ {A = ℕ} 0 1 = cc in omega arith);
     is = λ p S H j x. cycled-is p S H j k (looped-at p S H j k q) len (omega arith) (omega arith) x w;
   }
 
@@ -92,15 +101,16 @@ module _ {e o′ : List ℕ} {n : ℕ} {r : Lined} (L : Lowest e n r o′) (out 
     line-up-shown : (c : Option (List ℕ)) → order n (liveIn (edgesOf p)) ≡ c → shownLineUp p ≡ c
     line-up-shown c x = sym (order-is p S) ∙ ap (λ (k : ℕ). order k (liveIn (edgesOf p))) (sym j) ∙ x
 
-  pub shows-bad : r ≡ Broken → {v : Judged} {out′ : List ℕ} → Shows e n out v out′
-  shows-bad q = record { is = λ p S H j. absurd (rw q at (lined p S H j)) }
+  pub shows-bad : r ≡ Broken → {out′ : List ℕ} → Shows e n out (Refused BadStore) out′
+  shows-bad q = record { twelve = bad-twelve; is = λ p S H j. absurd (rw q at (lined p S H j)) }
 
   pub shows-closed : r ≡ Stuck → {v : Judged} {out′ : List ℕ} → Closing e n out v out′ → Shows e n out v out′
-  shows-closed q C = record { is = λ p S H j. C .is p S H j (line-up-shown p S H j none (rw q at (lined p S H j))) }
+  shows-closed q C = record { twelve = C .twelve; is = λ p S H j. C .is p S H j (line-up-shown p S H j none (rw q at (lined p S H j))) }
 
   pub shows-lined : r ≡ All → n ≤ 512 → n ≤ length out → length o′ ≡ 512 → {out′ : List ℕ} → out′ ≡ sets out 0 (take n o′)
       → Shows e n out (LineUp n) out′
   shows-lined q i l len {out′} w = record {
+    twelve = λ j e. absurd (let z : _≡_ {A = ℕ} 0 1 = cc in omega arith);
     is = λ p S H j.
         let x = line-up-shown p S H j (some (take n o′)) (rw q at (lined p S H j)) in
         let y : places n out′ ≡ take n o′ = ap (places n) w ∙ placed out o′ n (omega arith) l in
@@ -118,6 +128,7 @@ module _ (s : Slices) (out : List ℕ) {h : Header} (opens : h ≡ openOf (lentO
     verdict-few k = opened-kept (to-verdict (length out)) s opens s out out (refused ShortAnswer) is (λ f p H q.
         decided-refused (some p) (to-verdict (length out)) s out ShortAnswer
         (refusal-long (some p) (to-verdict (length out)) s f ∙ rw (lt-ltb (length out) (p .base .jobs) (rw q at k))))
+        (heeds-first (to-verdict (length out)) s opens out (rw (is, lt-ltb (length out) (plan .jobs) k)))
 
     some-verdict : isShort (lentOf s) ≡ false → (p : Plan) → Held s p → p .base .jobs ≤ length out → (r : Reply)
         → r ≡ verdictOf (shownLineUp p) (shownCycle p) → Decided (some p) (to-verdict (length out)) s s out (sets out 0 (answerOf r)) r
@@ -132,3 +143,6 @@ module _ (s : Slices) (out : List ℕ) {h : Header} (opens : h ≡ openOf (lentO
         let x = X .is p (H .desk .sound) (H .desk .edges) m′ in
         let d = some-verdict f p H (rw m′ at k) (saysVerdict out′ v) (x .says) in
         record { says = d .says; leaves = d .leaves; answers = x .answers })
+        (heeds-later (to-verdict (length out)) s opens (rw (is, le-ltb (length out) (plan .jobs) (rw m at k)))
+        (λ j e. let z = X .twelve j (says-refused out′ v j e) in rw z)
+        (λ j e n. absurd (n (X .twelve j (says-refused out′ v j e)))))

@@ -1,9 +1,11 @@
 -- What a put answers and leaves. Assumes nothing.
 use Prim.Native.Nat.{ℕ, _≤_, _<_}
 use mathlib.Core.Path.{_≡_}
+use mathlib.Core.Logic.{_⊎_}
 use mathlib.Core.List.{List}
 use lib.ListN.{length, take}
-use Rattle.rules.specs.declared.Refusal.the-variants.{NoRoom}
+use Rattle.rules.specs.declared.Refusal.{Refusal}
+use Rattle.rules.specs.declared.Refusal.the-variants.{NoRoom, BadStore}
 use Rattle.rules.specs.Sizes.{mostEntries}
 use Rattle.rules.specs.Routes.{Plan, putPlan, inForce}
 use Rattle.rules.specs.Scores.{score, minusOf}
@@ -45,6 +47,8 @@ pub record FollowDone (s′ : Slices) (o : ℕ) (l : List ℕ) (x : Followed) (p
 pub record Follows (s s′ : Slices) (n o : ℕ) (l : List ℕ) (x : Followed) : Type 0 where
   pub done : (p : Plan) → Puts s n o l p → inForce (putPlan p o l .desk .routes) ≤ mostEntries → FollowDone s′ o l x p
   pub full : (p : Plan) → Puts s n o l p → mostEntries < inForce (putPlan p o l .desk .routes) → (x ≡ Unfollowed NoRoom) × (s′ ≡ s)
+  -- of any words: 12, or 7 and nothing was written
+  pub stays : (k : Refusal) → x ≡ Unfollowed k → (k ≡ BadStore) ⊎ ((k ≡ NoRoom) × (s′ ≡ s))
 
 -- "Returns score after minus score before, part by part."
 pub record ChangeDone (s′ : Slices) (o : ℕ) (l : List ℕ) (x : Changed) (p : Plan) : Type 0 where
@@ -54,3 +58,4 @@ pub record ChangeDone (s′ : Slices) (o : ℕ) (l : List ℕ) (x : Changed) (p 
 pub record Changes (s s′ : Slices) (n o : ℕ) (l : List ℕ) (x : Changed) : Type 0 where
   pub done : (p : Plan) → Puts s n o l p → inForce (putPlan p o l .desk .routes) ≤ mostEntries → ChangeDone s′ o l x p
   pub full : (p : Plan) → Puts s n o l p → mostEntries < inForce (putPlan p o l .desk .routes) → (x ≡ Refused NoRoom) × (s′ ≡ s)
+  pub stays : (k : Refusal) → x ≡ Refused k → (k ≡ BadStore) ⊎ ((k ≡ NoRoom) × (s′ ≡ s))

@@ -124,7 +124,7 @@ pub times-turned : (e : Pair) (l : List Pair) → times e (map turned l) ≡ tim
 times-turned e [] = refl
 times-turned e (f ∷ l) = rw (and-turned (eqb (e .0) (f .1)) (eqb (e .1) (f .0)), times-turned e l)
 
-keep-none : (c : Pair → Bool) (u v : ℕ) (l : List Pair) → c (u, v) ≡ true → memb v (tips (keep c l)) ≡ false → times (u, v) l ≡ 0
+pub keep-none : (c : Pair → Bool) (u v : ℕ) (l : List Pair) → c (u, v) ≡ true → memb v (tips (keep c l)) ≡ false → times (u, v) l ≡ 0
 keep-none c u v [] h m = refl
 keep-none c u v (f ∷ l) h m = go (samePair (u, v) f) refl (c f) refl (keep-none c u v l h) m
   where

@@ -12,7 +12,7 @@ use lib.ListN.{length, getD, set, length-set}
 use lib.Seq.{getD-set-other}
 use borrow.Author.Tests.{eq-eqb, eqb-true, eqb-false}
 use Rattle.rules.specs.Calls.{reads}
-use Rattle.rules.specs.Lists.{Once, Pair, isZero, keep, memb, samePair, sumOf, times}
+use Rattle.rules.specs.Lists.{Once, Pair, isZero, memb, sumOf, times}
 use Rattle.rules.specs.Reports.{push}
 use Rattle.rules.specs.Routes.{Emptied, Plan, Route, emptied, empty, emptyRoute, exchange, holders, inForce, linksOf, live}
 use Rattle.rules.specs.Routes.{ownStage, putPlan, read, routeOf, staged, without}
@@ -22,8 +22,7 @@ use Rattle.rules.specs.Steps.{staging, turning, amid, begun, unwaited}
 use Rattle.rules.proofs.Members.{memb-append, or-false, or-true}
 use Rattle.rules.proofs.Puts.{Along, emptied-along}
 use Rattle.rules.proofs.Ranges.{Test, clash, fail, pass, test}
-use Rattle.rules.proofs.Stages.{read-read, reads-set, staged-kept, staged-tails, sum-set, tells}
-use Rattle.rules.proofs.Stored.{same-pair}
+use Rattle.rules.proofs.Stages.{keep-none, read-read, reads-set, staged-kept, staged-tails, sum-set, tells, tips}
 use Rattle.rules.proofs.Walks.{or-right}
 
 -- ── one stage ──
@@ -224,28 +223,11 @@ empty-fewer b o (w ∷ ws) x e = let a = empty-fewer b o ws (cond (eqb w o) x (w
     go true = omega arith
     go false = less-held b (x .routes) w e
 
-keep-empty : (c : Pair → Bool) (l : List Pair) (e : Pair) → keep c l ≡ [] → c e ≡ true → times e l ≡ 0
-keep-empty c [] e q h = refl
-keep-empty c (f ∷ l) e q h = go (test (c f)) (keep-empty c l e)
-  where
-    never-cons : {a : Pair} {l : List Pair} → a ∷ l ≡ [] → ⊥
-    never-cons z = let y : _≡_ {A = ℕ} 0 1 = cc in omega arith
-
-    go : Test (c f) → (keep c l ≡ [] → c e ≡ true → times e l ≡ 0) → times e (f ∷ l) ≡ 0
-    go (pass k) ih = absurd (never-cons (sym (ap (λ (b : Bool). cond b (f ∷ keep c l) (keep c l)) k) ∙ q))
-    go (fail k) ih =
-        let d : samePair e f ≡ false = differs (test (samePair e f)) in
-        rw d (ih (sym (ap (λ (b : Bool). cond b (f ∷ keep c l) (keep c l)) k) ∙ q) h)
-      where
-        differs : Test (samePair e f) → samePair e f ≡ false
-        differs (fail s) = s
-        differs (pass s) = clash (sym (ap c (same-pair {u = e .0} {v = e .1} {e = f} s)) ∙ h) k
-
--- where nothing appeared, every edge of the new plan is one of the old
-pub came-none : (p : Plan) (o : ℕ) (l : List ℕ) → Sound p → Sound (putPlan p o l) → o < p .base .owners → length l ≤ mostEntries
-    → ownStage p o l .came ≡ [] → (u v : ℕ) → live (putPlan p o l) u v ≡ true → live p u v ≡ true
+-- where no edge to v appeared, every edge to v of the new plan is one of the old
+pub came-was : (p : Plan) (o : ℕ) (l : List ℕ) → Sound p → Sound (putPlan p o l) → o < p .base .owners → length l ≤ mostEntries
+    → (u v : ℕ) → memb v (tips (ownStage p o l .came)) ≡ false → live (putPlan p o l) u v ≡ true → live p u v ≡ true
 unfolding putPlan ownStage staged exchange
-came-none p o l S S′ h few none u v k = S .kept .held u v ∙ above (holders (p .base) (p .desk .routes) (u, v)) held
+came-was p o l S S′ h few u v none k = S .kept .held u v ∙ above (holders (p .base) (p .desk .routes) (u, v)) held
   where
     x : Emptied
     x = emptied p o
@@ -266,7 +248,7 @@ came-none p o l S S′ h few none u v k = S .kept .held u v ∙ above (holders (
     still : Test (isZero before) → 0 < before
     still (fail z) = positive before (ap not z)
     still (pass z) =
-        let a = keep-empty (λ e. isZero (holders (p .base) (x .routes) e)) (linksOf (read (p .base .jobs) l)) (u, v) none z in
+        let a = keep-none (λ e. isZero (holders (p .base) (x .routes) e)) u v (linksOf (read (p .base .jobs) l)) z none in
         let b = tells (p .base) (x .routes) (x .heads) (x .tails) o (read (p .base .jobs) l)
         (let c = A .rows in omega arith) (A .reads) (read-read (p .base .jobs) l few) (u, v) in
         let d = positive after (sym (S′ .kept .held u v) ∙ k) in

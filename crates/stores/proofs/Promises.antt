@@ -3,15 +3,16 @@ use Prim.Native.Nat.{ℕ}
 use native.Mathlib.Omega.{arith}
 use mathlib.Core.Path.{_≡_, refl, sym, ap, _∙_}
 use mathlib.Core.Bool.{true, false}
-use mathlib.Core.Option.{none, some}
+use mathlib.Core.Option.{Option, none, some}
 use mathlib.Core.List.{List, [], _∷_, _++_}
 use lib.ListN.{take, drop, take-append-drop}
 use lib.Seq.{sets}
 use Rattle.rules.specs.declared.Plan.{Plan as Counts}
 use Rattle.rules.specs.declared.Refusal.{Refusal}
-use Rattle.rules.specs.declared.Refusal.the-variants.{NotLoaded, ShortStore}
+use Rattle.rules.specs.declared.Refusal.the-variants.{NotLoaded, ShortStore, BadStore}
+use Rattle.rules.specs.Lists.{memb}
 use Rattle.rules.specs.Sizes.{isShort}
-use Rattle.rules.specs.Refusals.{firstOf}
+use Rattle.rules.specs.Refusals.{firstOf, numberOf}
 use Rattle.rules.specs.Routes.{Plan, State}
 use Rattle.rules.specs.Calls.{Ask, Reply, refused, checksOf, refusal, accepted, reply}
 use Rattle.rules.proofs.Ranges.{Test, pass, fail, test}
@@ -25,6 +26,7 @@ use Rattle.stores.specs.declared.header.Header.{Header}
 use Rattle.stores.specs.declared.header.Header.the-variants.{Is, Refused}
 use Rattle.stores.specs.Headers.{openOf, countsOf}
 use Rattle.stores.specs.Promise.{Slices, lentOf, callOf, Held, Stands, StandsFor, holding, after, answerOf, Decided, Promise}
+use Rattle.stores.specs.Promise.{refusedBy, laterOf, Heeds}
 use Rattle.stores.proofs.Openings.{open-short, open-none, open-some}
 
 -- ── what a plan's words leave ──
@@ -100,6 +102,39 @@ decided-written p q a s s′ r fine k e n w = record {
   answers = rw n;
 }
 
+-- ── of any contents ──
+
+none-some : {A : Type 0} {r : Refusal} {x : Option Refusal} → x ≡ none → x ≡ some r → A
+none-some e f = absurd (let z : _≡_ {A = ℕ} 0 1 = cc in omega arith)
+
+module _ {A : Type 0} (a : Ask) (s : Slices) {h : Header} (opens : h ≡ openOf (lentOf s) (s .base)) where
+  -- lengths and header refuse
+  pub heeds-first : (out : List A) {r : Refusal} → refusedBy h a ≡ some r → Heeds a s s out out (refused r)
+  heeds-first out {r} e = record {
+    first = λ k f. let q : r ≡ k = (let x = sym e ∙ ap (λ (h : Header). refusedBy h a) opens ∙ f in cc) in ap refused q;
+    later = λ f k q. none-some f (sym (ap (λ (h : Header). refusedBy h a) opens) ∙ e);
+    stays = λ k q n. (refl, refl);
+  }
+
+  module _ (none-first : refusedBy h a ≡ none) {s′ : Slices} {out out′ : List A} {r : Reply} where
+    -- they do not: what is refused then
+    pub heeds-later : ((k : Refusal) → r ≡ refused k → memb (numberOf k) (12 ∷ laterOf a) ≡ true)
+        → ((k : Refusal) → r ≡ refused k → (k ≡ BadStore → ⊥) → (s′ ≡ s) × (out′ ≡ out)) → Heeds a s s′ out out′ r
+    heeds-later l k = record {
+      first = λ k f. none-some none-first (ap (λ (h : Header). refusedBy h a) opens ∙ f);
+      later = λ f. l;
+      stays = k;
+    }
+
+    pub heeds-done : ((k : Refusal) → r ≡ refused k → ⊥) → Heeds a s s′ out out′ r
+    heeds-done n = heeds-later (λ k e. absurd (n k e)) (λ k e. absurd (n k e))
+
+    pub heeds-bad : r ≡ refused BadStore → Heeds a s s′ out out′ r
+    heeds-bad e = heeds-later (λ k f. let q = same k f in rw q) (λ k f n. absurd (n (same k f)))
+      where
+        same : (k : Refusal) → r ≡ refused k → k ≡ BadStore
+        same k f = cc
+
 -- ── of every state that the store stands for ──
 
 module _ (a : Ask) (s s′ : Slices) (out out′ : List ℕ) (r : Reply) where
@@ -107,8 +142,8 @@ module _ (a : Ask) (s s′ : Slices) (out out′ : List ℕ) (r : Reply) where
   pub promised : (isShort (lentOf s) ≡ true → (t : State) → Decided t a s s′ out out′ r)
       → (isShort (lentOf s) ≡ false → Stands s none → Decided none a s s′ out out′ r)
       → (isShort (lentOf s) ≡ false → (p : Plan) → Held s p → Decided (some p) a s s′ out out′ r)
-      → Promise a s s′ out out′ r
-  promised f g h = record { decides = λ t k. go t k (test (isShort (lentOf s))) }
+      → Heeds a s s′ out out′ r → Promise a s s′ out out′ r
+  promised f g h H = record { decides = λ t k. go t k (test (isShort (lentOf s))); heeds = H }
     where
       go : (t : State) → StandsFor s t → Test (isShort (lentOf s)) → Decided t a s s′ out out′ r
       go t k (pass e) = f e t
@@ -132,14 +167,15 @@ module _ (a : Ask) (s : Slices) {h : Header} (opens : h ≡ openOf (lentOf s) (s
       let q : r ≡ NotLoaded = cc in
       rw q (decided-refused none a s out NotLoaded (refusal-long none a s f ∙ ap firstOf k)))
       (λ f p H. let x = open-some s f p H in absurd (unlike (sym x ∙ sym opens ∙ e)))
+      (heeds-first a s opens out (ap (λ (h : Header). refusedBy h a) e))
 
   -- a store that opens: it stands for a plan, if it stands for anything
   pub opened-kept : (s′ : Slices) (out out′ : List ℕ) (r : Reply) {plan : Counts} → h ≡ Is plan
       → (isShort (lentOf s) ≡ false → (p : Plan) → Held s p → plan ≡ countsOf (p .base) → Decided (some p) a s s′ out out′ r)
-      → Promise a s s′ out out′ r
-  opened-kept s′ out out′ r {plan} e g = promised a s s′ out out′ r
+      → Heeds a s s′ out out′ r → Promise a s s′ out out′ r
+  opened-kept s′ out out′ r {plan} e g H = promised a s s′ out out′ r
       (λ f t. let x = open-short (s .base) (lentOf s) f in absurd (unlike (sym e ∙ opens ∙ x)))
       (λ f z. let x = open-none s f z in absurd (unlike (sym e ∙ opens ∙ x)))
       (λ f p H. let x = open-some s f p H in
       let q : plan ≡ countsOf (p .base) = cc in
-      g f p H q)
+      g f p H q) H

@@ -27,7 +27,8 @@ use Rattle.stores.specs.Sums.{scoredAt}
 use Rattle.stores.specs.Says.{places}
 use Rattle.times.specs.Words.{timeWords, startOf}
 use Rattle.stores.proofs.Promises.{closed-kept, opened-kept, decided-refused, decided-read, refusal-long}
-use Rattle.stores.proofs.Scores.{scored-held}
+use Rattle.stores.proofs.Promises.{heeds-first, heeds-done, heeds-bad}
+use Rattle.stores.proofs.Scores.{scored-held, scored-twelve}
 use Rattle.stores.proofs.Tabled.{table-length, table-take, table-same, taken-sets, part-slice, places-take}
 
 -- ── score ──
@@ -46,6 +47,7 @@ module _ (s : Slices) {h : Header} (opens : h ≡ openOf (lentOf s) (s .base)) w
     pub score-bad : {r : Refusal} → x ≡ Refused r → Reads to-score s (refused r)
     score-bad {r} e = opened-kept to-score s opens s [] [] (refused r) is
         (λ f p H q. absurd (unlike (sym (scored-so p H q) ∙ e)))
+        (heeds-bad to-score s opens (rw is) (ap refused (scored-twelve _ _ _ _ tells e)))
 
     some-score : isShort (lentOf s) ≡ false → (p : Plan) → Held s p
         → Decided (some p) to-score s s [] [] (counted (score p) (matchesOf (score p)))
@@ -57,6 +59,7 @@ module _ (s : Slices) {h : Header} (opens : h ≡ openOf (lentOf s) (s .base)) w
         let y = scored-so p H q in
         let z : c ≡ score p = cc in
         rw (m, z) (some-score f p H))
+        (heeds-done to-score s opens (rw is) (λ k f. let z : _≡_ {A = ℕ} 0 1 = cc in omega arith))
 
 -- ── starts ──
 
@@ -81,6 +84,7 @@ module _ (s : Slices) (out : List ℕ) {h : Header} (opens : h ≡ openOf (lentO
     starts-few k = opened-kept (to-starts (length out)) s opens s out out (refused ShortAnswer) is (λ f p H q.
         decided-refused (some p) (to-starts (length out)) s out ShortAnswer
         (refusal-long (some p) (to-starts (length out)) s f ∙ rw (lt-ltb (length out) (p .base .jobs) (rw q at k))))
+        (heeds-first (to-starts (length out)) s opens out (rw (is, lt-ltb (length out) (plan .jobs) k)))
 
     some-starts : isShort (lentOf s) ≡ false → (p : Plan) → Held s p → p .base .jobs ≤ length out
         → Decided (some p) (to-starts (length out)) s s out (sets out 0 (table (p .base .jobs) (reportedStart p)))
@@ -100,3 +104,5 @@ module _ (s : Slices) (out : List ℕ) {h : Header} (opens : h ≡ openOf (lentO
         let y : places n out′ ≡ table (p .base .jobs) (reportedStart p) =
         places-take n out′ z ∙ rw w′ (taken-sets out _ n (l ∙ sym m′) k) in
         rw (y, w′) (some-starts f p H (rw m′ at k)))
+        (heeds-done (to-starts (length out)) s opens (rw (is, le-ltb (length out) (plan .jobs) (rw m at k)))
+        (λ k f. let z : _≡_ {A = ℕ} 0 1 = cc in omega arith))

@@ -10,7 +10,7 @@ use lib.Dec.{ltb}
 use borrow.Author.Tests.{ltb-true, ltb-false, lt-leb, le-leb}
 use Rattle.rules.specs.declared.Plan.{Plan as Counts}
 use Rattle.rules.specs.declared.Refusal.{Refusal}
-use Rattle.rules.specs.declared.Refusal.the-variants.{NoSuchOwner}
+use Rattle.rules.specs.declared.Refusal.the-variants.{NoSuchOwner, BadStore}
 use Rattle.rules.specs.Lists.{memb}
 use Rattle.rules.specs.Sizes.{isShort}
 use Rattle.rules.specs.Routes.{Plan, live, wait}
@@ -29,6 +29,7 @@ use Rattle.stores.specs.Words.{baseWords}
 use Rattle.stores.specs.Headers.{openOf, countsOf}
 use Rattle.stores.specs.Promise.{Slices, slices, lentOf, Held, holding, Decided, Promise}
 use Rattle.stores.proofs.Promises.{closed-kept, opened-kept, decided-refused, decided-written, refusal-long}
+use Rattle.stores.proofs.Promises.{heeds-first, heeds-done, heeds-bad}
 use Rattle.stores.proofs.Promises.{front-back, holding-is}
 
 -- a plan in which one more waits has the same base, edges and times
@@ -66,6 +67,7 @@ module _ (o : ℕ) (s : Slices) {h : Header} (opens : h ≡ openOf (lentOf s) (s
         opened-kept (to-retract o) s opens s [] [] (refused NoSuchOwner) is (λ f p H q.
         decided-refused (some p) (to-retract o) s [] NoSuchOwner
         (refusal-long (some p) (to-retract o) s f ∙ rw (le-leb (p .base .owners) o (rw q at k))))
+        (heeds-first (to-retract o) s opens [] (rw (is, le-leb (plan .owners) o k)))
 
     module _ (e : t ≡ true) {r′ : List ℕ} {d : Done} (R : Retracted (take 1794 (s .routes)) o r′ d) where
       k : o < plan .owners
@@ -94,7 +96,9 @@ module _ (o : ℕ) (s : Slices) {h : Header} (opens : h ≡ openOf (lentOf s) (s
 
       pub retract-waits : d ≡ Fine → Promise (to-retract o) s left [] [] (scored noChange)
       retract-waits f = opened-kept (to-retract o) s opens left [] [] (scored noChange) is some-waits
+          (heeds-done (to-retract o) s opens (rw (is, lt-leb (plan .owners) o k)) (λ k f. let z : _≡_ {A = ℕ} 0 1 = cc in omega arith))
 
-      pub retract-bad : {r : Refusal} → d ≡ Bad → Promise (to-retract o) s left [] [] (refused r)
-      retract-bad {r} f = opened-kept (to-retract o) s opens left [] [] (refused r) is
+      pub retract-bad : d ≡ Bad → Promise (to-retract o) s left [] [] (refused BadStore)
+      retract-bad f = opened-kept (to-retract o) s opens left [] [] (refused BadStore) is
           (λ g p H q. absurd (unlike (sym f ∙ waits p H q .0)))
+          (heeds-bad (to-retract o) s opens (rw (is, lt-leb (plan .owners) o k)) refl)

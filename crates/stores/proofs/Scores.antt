@@ -10,6 +10,7 @@ use native.Mathlib.Nat.{add-zero}
 use lib.Dec.{eqb, ltb}
 use borrow.Author.Tests.{eq-eqb, ne-eqb, lt-ltb, le-ltb}
 use Rattle.rules.specs.declared.Score.{Score}
+use Rattle.rules.specs.declared.Refusal.{Refusal}
 use Rattle.rules.specs.declared.Refusal.the-variants.{BadStore}
 use Rattle.rules.specs.Lists.{tick}
 use Rattle.rules.specs.Routes.{Plan}
@@ -17,6 +18,7 @@ use Rattle.rules.specs.Scores.{scoreOf, limit, score, hardPenalty, invalidFixed
 use Rattle.rules.specs.Scores.{cyclePenalty, isCyclic, makespan}
 use Rattle.rules.proofs.Bounds.{makespan-few}
 use Rattle.rules.proofs.Scoring.{within-score}
+use Rattle.stores.specs.declared.score.Scored.{Scored}
 use Rattle.stores.specs.declared.score.Scored.the-variants.{Is, Refused}
 use Rattle.stores.specs.Sums.{Summed, Assigned, Penal, ScoredBy, penaltyAt, scoredAt, assignmentsAt}
 use Rattle.times.specs.Words.{timeWords}
@@ -57,6 +59,17 @@ module _ {base routes times : List ℕ} {n : ℕ} where
       is = rw (le-ltb 1 _ odd, le-ltb limit _ wide, ne-eqb _ 1 e, ← p .is, add-zero) (ap Is q);
       within = rw q (within-score x _ (let z = p .few in omega arith) wide);
     }
+
+-- a score is refused under 12 alone
+pub scored-twelve : (base routes times : List ℕ) (n : ℕ) {a : Scored} {k : Refusal} → a ≡ scoredAt base routes times n → a ≡ Refused k
+    → k ≡ BadStore
+unfolding scoredAt
+scored-twelve base routes times n {a} {k} q e = go (ltb 1 (getD times 0 0)) (ltb limit (getD times 1 0)) _ (sym q ∙ e)
+  where
+    go : (x y : Bool) (c : Score) → cond x (Refused BadStore) (cond y (Refused BadStore) (Is c)) ≡ Refused k → k ≡ BadStore
+    go true y c f = cc
+    go false true c f = cc
+    go false false c f = absurd (let z : _≡_ {A = ℕ} 0 1 = cc in omega arith)
 
 -- ── of a store that stands for a plan ──
 

@@ -2,21 +2,29 @@
 -- state that the store stands for. Assumes nothing.
 use Prim.Native.Nat.{ℕ}
 use mathlib.Core.Path.{_≡_}
-use mathlib.Core.Bool.{false}
+use mathlib.Core.Bool.{true, false}
 use mathlib.Core.Option.{Option, none, some}
-use mathlib.Core.List.{List, [], _++_}
+use mathlib.Core.List.{List, [], _∷_, _++_}
+use lib.Dec.{leb}
 use lib.ListN.{length, getD, set, take, drop}
 use lib.Seq.{sets}
+use Rattle.rules.specs.declared.Plan.{Plan as Counts}
 use Rattle.rules.specs.declared.Refusal.{Refusal}
+use Rattle.rules.specs.declared.Refusal.the-variants.{NoSuchOwner, BadStore}
+use Rattle.rules.specs.Lists.{memb}
 use Rattle.rules.specs.Sizes.{Lent, isShort}
 use Rattle.rules.specs.Routes.{Plan, State}
 use Rattle.rules.specs.Calls.{Ask, Call, Reply, refused, scored, changed, counted, lined-up, cycled, started, blocked, rerouted, refusal}
-use Rattle.rules.specs.Calls.{reply, step}
+use Rattle.rules.specs.Calls.{to-load, to-reset, to-retract, to-put, to-score, to-verdict, to-starts, to-blocks, to-move, reply, step}
+use Rattle.rules.specs.Refusals.{Check, firstOf, tooMany, tooFew, numberOf}
 use Rattle.edges.specs.Edges.{encode as edgeWords}
 use Rattle.routes.specs.Store.{encode as routeWords}
 use Rattle.routes.specs.Desks.{edgesOf, routesOf, Desked}
 use Rattle.times.specs.Words.{spanWords, timeWords}
+use Rattle.stores.specs.declared.header.Header.{Header}
+use Rattle.stores.specs.declared.header.Header.the-variants.{Is, Refused}
 use Rattle.stores.specs.Words.{baseWords}
+use Rattle.stores.specs.Headers.{openOf}
 
 -- what the five slices hold that a call is lent
 pub record Slices : Type 0 where
@@ -102,9 +110,47 @@ pub record Decided (t : State) (a : Ask) (s s′ : Slices) (out out′ : List �
   pub leaves : s′ ≡ after t (callOf a s) s
   pub answers : out′ ≡ sets out 0 (answerOf r)
 
--- of every state that the store stands for
+-- ── of any contents ──
+
+-- 5, 6 and 10, where the counts of the header tell them
+abbrev pub checksBy : Counts → Ask → List Check
+checksBy c (to-load l) = []
+checksBy c to-reset = []
+checksBy c (to-retract o) = (NoSuchOwner, leb (c .owners) o) ∷ []
+checksBy c (to-put o l) = (NoSuchOwner, leb (c .owners) o) ∷ tooMany l ∷ []
+checksBy c to-score = []
+checksBy c (to-verdict k) = tooFew k (c .jobs) ∷ []
+checksBy c (to-starts k) = tooFew k (c .jobs) ∷ []
+checksBy c (to-blocks os k) = []
+checksBy c (to-move o m k) = (NoSuchOwner, leb (c .owners) o) ∷ []
+
+-- what lengths and header refuse, whatever the other words are: 9, 1, then those; 12 for a header that no load leaves
+abbrev pub refusedBy : Header → Ask → Option Refusal
+refusedBy (Refused r) a = some r
+refusedBy (Is c) a = firstOf (checksBy c a)
+
+-- the numbers that the other words may still give, besides 12
+abbrev pub laterOf : Ask → List ℕ
+laterOf (to-load l) = []
+laterOf to-reset = []
+laterOf (to-retract o) = []
+laterOf (to-put o l) = 7 ∷ []
+laterOf to-score = []
+laterOf (to-verdict k) = []
+laterOf (to-starts k) = []
+laterOf (to-blocks os k) = 10 ∷ []
+laterOf (to-move o m k) = 11 ∷ 8 ∷ 10 ∷ []
+
+-- bad input has its number exactly if lengths and header say so, and a call refused under 1 to 11 alters neither store nor answer buffer
+pub record Heeds {A : Type 0} (a : Ask) (s s′ : Slices) (out out′ : List A) (r : Reply) : Type 0 where
+  pub first : (k : Refusal) → refusedBy (openOf (lentOf s) (s .base)) a ≡ some k → r ≡ refused k
+  pub later : refusedBy (openOf (lentOf s) (s .base)) a ≡ none → (k : Refusal) → r ≡ refused k → memb (numberOf k) (12 ∷ laterOf a) ≡ true
+  pub stays : (k : Refusal) → r ≡ refused k → (k ≡ BadStore → ⊥) → (s′ ≡ s) × (out′ ≡ out)
+
+-- of every state that the store stands for, and of any contents
 pub record Promise (a : Ask) (s s′ : Slices) (out out′ : List ℕ) (r : Reply) : Type 0 where
   pub decides : (t : State) → StandsFor s t → Decided t a s s′ out out′ r
+  pub heeds : Heeds a s s′ out out′ r
 
 -- a call that only reads the store, and has no answer buffer
 abbrev pub Reads : Ask → Slices → Reply → Type 0

@@ -5,7 +5,7 @@ use native.Mathlib.Nat.{mod-eq-of-lt}
 use mathlib.Core.Path.{_≡_, refl, sym, ap, subst, _∙_}
 use mathlib.Core.Bool.{Bool, true, false}
 use mathlib.Core.Logic.{_⊎_, inl, inr}
-use mathlib.Core.List.{List, [], _∷_, _++_, append-nil}
+use mathlib.Core.List.{List, [], _∷_, _++_, append-nil, map}
 use lib.ListN.{getD, length, take, drop, set, replicate, length-drop, length-append, length-replicate, getD-replicate}
 use lib.ListN.{drop-of-length-le, List·getD-eq-default}
 use lib.Seq.{sets, sets-eq, take-all, take-at, drop-at, length-take-le, getD-drop}
@@ -15,13 +15,13 @@ use Rattle.rules.specs.Lists.{memb, tick, isEmpty, greatest, table}
 use Rattle.rules.specs.Sizes.{duration, mostJobs, longest}
 use Rattle.rules.specs.Routes.{Plan, putPlan, ownStage}
 use Rattle.rules.specs.Scores.{starts, isCyclic}
-use Rattle.rules.specs.Reports.{push, seeds, putWalk, putReport, Outcome}
+use Rattle.rules.specs.Reports.{headOf, push, seeds, putWalk, putReport, Outcome}
 use Rattle.rules.specs.Sound.{Sound}
 use Rattle.rules.proofs.Ranges.{lt-or-le, clash, greatest-same, greatest-more}
 use Rattle.rules.proofs.Tabled.{table-at, table-past}
 use Rattle.rules.proofs.Walks.{tri-is}
 use Rattle.rules.proofs.Puts.{seeds-low}
-use Rattle.rules.proofs.Steps.{push-new, came-none}
+use Rattle.rules.proofs.Steps.{push-new}
 use Rattle.rules.proofs.Bounds.{finish-few}
 use Rattle.rules.proofs.Reported.{visits-bound}
 use Rattle.edges.specs.Edges.{Model}
@@ -34,19 +34,20 @@ use Rattle.kernels.specs.declared.lines.Lined.{Lined}
 use Rattle.kernels.specs.declared.lines.Lined.the-variants.{All, Stuck, Bad as Broken}
 use Rattle.walks.specs.declared.walks.Walked.{Walked}
 use Rattle.walks.specs.declared.walks.Walked.the-variants.{Visits, Bad as Astray}
-use Rattle.kernels.specs.Lines.{Lows, Lines, LinedUp}
+use Rattle.kernels.specs.Lines.{Lows}
+use Rattle.backs.specs.Backs.{Judges, Judged as Decided}
 use Rattle.pulls.specs.Fulls.{Judged, Full as Fully}
 use Rattle.walks.specs.Walks.{Walk, Walks}
 use Rattle.walks.proofs.Walking.{fuel-fits}
 use Rattle.times.specs.declared.settle.Settled.{Settled}
 use Rattle.times.specs.declared.settle.Settled.the-variants.{Is, Bad}
 use Rattle.times.specs.Words.{spanWords, timeWords, startOf}
-use Rattle.times.specs.Settles.{endOf, latestOf, Given, Renews, Seeding, Seeds, Told, Judges}
+use Rattle.times.specs.Settles.{endOf, latestOf, Given, Renews, Seeding, Seeds}
 use Rattle.times.specs.Settles.{Putting, Mends, Refreshes}
 use Rattle.times.proofs.Graphing.{below, span-fun, spans-short}
-use Rattle.times.proofs.Timing.{looped-words, calm-words, fewer-calm}
+use Rattle.times.proofs.Timing.{looped-words, calm-words}
 use Rattle.times.proofs.Judging.{lined-calm, stuck-looped, starts-are}
-use Rattle.times.proofs.Mending.{after-sound, same-base, skipped-words, seeded, walkable, walk-is, mended-starts}
+use Rattle.times.proofs.Mending.{after-sound, put-heads, put-steady, skipped-words, seeded, walkable, walk-is, mended-starts}
 use Rattle.times.proofs.Mending.{report-skipped, report-full, report-found, report-walked}
 
 -- ── the latest end ──
@@ -81,6 +82,10 @@ two-set a b (x ∷ y ∷ l) h = refl
 -- the starts are what follows them
 pub starts-part : (ts : List ℕ) → length ts ≡ 514 → take 512 (drop 2 ts) ≡ drop 2 ts
 starts-part ts h = let l = length-drop 2 ts in take-all 512 (drop 2 ts) (omega arith)
+
+pub judges-part : {e vs : List ℕ} {n : ℕ} {r : Lined} (ts : List ℕ) → length ts ≡ 514 → Judges e (take 512 (drop 2 ts)) vs n r
+    → Judges e (drop 2 ts) vs n r
+judges-part ts h J = rw (starts-part ts h) at J
 
 pub go-is : (sp ts : List ℕ) (n : ℕ) {top : ℕ} → length ts ≡ 514 → top ≡ latestOf sp (take 512 (drop 2 ts)) n
     → set (set ts 0 0) 1 top ≡ 0 ∷ latestOf sp (drop 2 ts) n ∷ drop 2 ts
@@ -189,19 +194,6 @@ module _ {e sp st : List ℕ} {n : ℕ} {r : Lined} {st′ o′ : List ℕ} (F :
     where
       at-plan : (p : Plan) → Given p e sp n → Judged (edgesOf p) (p .base .jobs) (spanWords (p .base)) o′ st′ All
       at-plan p G = rw (q, G .jobs, G .spans) at (judged p G)
-
--- ── the verdict ──
-
-pub judges-none : {e : List ℕ} {n c : ℕ} → c ≡ 0 → Judges e n c All
-judges-none h = record { told = λ k m H b. let f : ⊥ = omega arith in absurd f; spared = λ k. refl }
-
-pub judges-lined : {e o′ : List ℕ} {n c : ℕ} {r : Lined} → (c ≡ 0 → ⊥) → Lines e n r o′ → Judges e n c r
-judges-lined {e} {o′} {n} {c} {r} h L = record { told = λ k m H b. go m r (L .is m H b); spared = λ k. absurd (h k) }
-  where
-    go : (m : Model) (r : Lined) → LinedUp m n o′ r → Told m n r
-    go m All l = (take n o′, l)
-    go m Stuck l = l
-    go m Broken l = l
 
 -- no job, no start
 past-jobs : (p : Plan) (v : ℕ) → p .base .jobs ≤ v → getD (table mostJobs (startOf p)) v 0 ≡ 0
@@ -352,15 +344,21 @@ given p o l P = record {
   jobs = P .jobs;
 }
 
-verdict : {e sp : List ℕ} {n c : ℕ} {s : Lined} → Judges e n c s → (p : Plan) (o : ℕ) (l : List ℕ) → Putting p o l e sp n → 0 < c
-    → Told (edgesOf (putPlan p o l)) (putPlan p o l .base .jobs) s
-verdict {s = s} J p o l P h =
-    let G = given p o l P in
-    let b = subst (λ (k : ℕ). Below k (edgesOf (putPlan p o l))) (sym (G .jobs)) (below (putPlan p o l) (G .sound)) in
-    subst (λ (k : ℕ). Told (edgesOf (putPlan p o l)) k s) (G .jobs) (J .told h (edgesOf (putPlan p o l)) (P .edges) b)
+-- by the starts before
+verdict : {e sp ts new : List ℕ} {n : ℕ} {s : Lined} → Judges e (drop 2 ts) new n s → (p : Plan) (o : ℕ) (l : List ℕ)
+    → Putting p o l e sp n → ts ≡ timeWords p → isCyclic p ≡ false → push [] new ≡ push [] (map headOf (ownStage p o l .came))
+    → Decided (edgesOf (putPlan p o l)) (putPlan p o l .base .jobs) s
+unfolding putPlan timeWords
+verdict {e} {sp} {ts} {new} {n} {s} J p o l P t calm q =
+    let (rank, Z) = put-steady p o l (P .sound) (P .owner) (P .few) (P .room) calm new q in
+    let K : Judges e (table mostJobs (startOf p)) new (p .base .jobs) s
+    = subst (λ (k : ℕ). Judges e (table mostJobs (startOf p)) new k s) (P .jobs)
+    (subst (λ (st : List ℕ). Judges e st new n s) (ap (drop 2) t) J) in
+    K .told (edgesOf (putPlan p o l)) (P .edges) (below (putPlan p o l) (after-sound p o l (P .sound) (P .owner) (P .few) (P .room)))
+    (put-heads p o l (P .sound) (P .owner) (P .few) (P .room) calm new q) rank Z
 
-module _ {e sp ts heads : List ℕ} {c n : ℕ} where
-  pub refreshes-none : heads ≡ [] → Refreshes e sp ts heads c n (Is Skipped) ts
+module _ {e sp ts heads new : List ℕ} {n : ℕ} where
+  pub refreshes-none : heads ≡ [] → Refreshes e sp ts heads new n (Is Skipped) ts
   refreshes-none h = record {
     is = λ p o l P t q a.
         let x : isEmpty (seeds p o l) ≡ true = ap isEmpty (sym q ∙ ap (push []) h) in
@@ -371,7 +369,7 @@ module _ {e sp ts heads : List ℕ} {c n : ℕ} where
   }
 
   module _ (some : 0 < length heads) where
-    pub refreshes-anew : (getD ts 0 0 ≡ 0 → ⊥) → {r : Settled} {ts′ : List ℕ} → Renews e sp n r ts′ → Refreshes e sp ts heads c n r ts′
+    pub refreshes-anew : (getD ts 0 0 ≡ 0 → ⊥) → {r : Settled} {ts′ : List ℕ} → Renews e sp n r ts′ → Refreshes e sp ts heads new n r ts′
     refreshes-anew h N = record {
       is = λ p o l P t q a.
           let R = N .is (putPlan p o l) (given p o l P) in
@@ -379,40 +377,24 @@ module _ {e sp ts heads : List ℕ} {c n : ℕ} where
           record { report = R .report ∙ ap Is (sym x); times = R .times };
     }
 
-    module _ (calm : getD ts 0 0 ≡ 0) {s : Lined} (J : Judges e n c s) where
-      pub refreshes-bad : s ≡ Broken → {ts′ : List ℕ} → Refreshes e sp ts heads c n Bad ts′
-      refreshes-bad x = record { is = λ p o l P t q a. absurd (go p o l P (lt-or-le 0 c)) }
-        where
-          go : (p : Plan) (o : ℕ) (l : List ℕ) → Putting p o l e sp n → (0 < c) ⊎ (c ≤ 0) → ⊥
-          go p o l P (inl h) = rw x at (verdict J p o l P h)
-          go p o l P (inr h) = let y = J .spared (omega arith) in let z : _≡_ {A = ℕ} 0 1 = cc in omega arith
+    module _ (calm : getD ts 0 0 ≡ 0) {s : Lined} (J : Judges e (drop 2 ts) new n s) where
+      pub refreshes-bad : s ≡ Broken → {ts′ : List ℕ} → Refreshes e sp ts heads new n Bad ts′
+      refreshes-bad x = record { is = λ p o l P t q a. absurd (rw x at (verdict J p o l P t (words-calm p ts t calm) a)) }
 
-      pub refreshes-found : s ≡ Stuck → {ts′ : List ℕ} → ts′ ≡ 1 ∷ 0 ∷ replicate 512 0 → Refreshes e sp ts heads c n (Is CycleFound) ts′
+      pub refreshes-found : s ≡ Stuck → {ts′ : List ℕ} → ts′ ≡ 1 ∷ 0 ∷ replicate 512 0 → Refreshes e sp ts heads new n (Is CycleFound) ts′
       refreshes-found x w = record {
         is = λ p o l P t q a.
-            let y = go p o l P (lt-or-le 0 c) in
             let before = words-calm p ts t calm in
+            let y = stuck-looped (putPlan p o l) (given p o l P .sound) (rw x at (verdict J p o l P t before a)) in
             let z = report-found p o l (P .sound) (P .owner) (P .few) (P .room) (some-seeds heads some p o l q) before y in
             record { report = ap Is (sym z); times = w ∙ sym (looped-words (putPlan p o l) y) };
       }
-        where
-          go : (p : Plan) (o : ℕ) (l : List ℕ) → Putting p o l e sp n → (0 < c) ⊎ (c ≤ 0) → isCyclic (putPlan p o l) ≡ true
-          go p o l P (inl h) = stuck-looped (putPlan p o l) (given p o l P .sound) (rw x at (verdict J p o l P h))
-          go p o l P (inr h) = let y = J .spared (omega arith) in let z : _≡_ {A = ℕ} 0 1 = cc in let f : ⊥ = omega arith in absurd f
 
       pub refreshes-walked : s ≡ All → {r : Settled} {ts′ : List ℕ} → Mends e sp ts (push [] heads) n r ts′
-          → Refreshes e sp ts heads c n r ts′
+          → Refreshes e sp ts heads new n r ts′
       refreshes-walked x M = record {
         is = λ p o l P t q a.
             let y = words-calm p ts t calm in
-            M .is p o l P t q (some-seeds heads some p o l q) y (go p o l P a y (lt-or-le 0 c));
+            let L : Decided (edgesOf (putPlan p o l)) (putPlan p o l .base .jobs) All = rw x at (verdict J p o l P t y a) in
+            M .is p o l P t q (some-seeds heads some p o l q) y (lined-calm (putPlan p o l) (given p o l P .sound) (L .0) (L .1));
       }
-        where
-          go : (p : Plan) (o : ℕ) (l : List ℕ) → Putting p o l e sp n → (c ≡ 0 → ownStage p o l .came ≡ []) → isCyclic p ≡ false
-              → (0 < c) ⊎ (c ≤ 0) → isCyclic (putPlan p o l) ≡ false
-          go p o l P a y (inl h) =
-              let L : Told (edgesOf (putPlan p o l)) (putPlan p o l .base .jobs) All = rw x at (verdict J p o l P h) in
-              lined-calm (putPlan p o l) (given p o l P .sound) (L .0) (L .1)
-          go p o l P a y (inr h) =
-              fewer-calm p (putPlan p o l) (ap (λ b. b .jobs) (sym (same-base p o l (P .sound) (P .owner) (P .few) (P .room))))
-              (came-none p o l (P .sound) (given p o l P .sound) (P .owner) (P .few) (a (omega arith))) y

@@ -2,26 +2,20 @@
 use Prim.Native.Nat.{ℕ, _+_, _%_, _^_, _≤_, _<_}
 use mathlib.Core.Path.{_≡_}
 use mathlib.Core.Bool.{true, false}
-use mathlib.Core.Option.{none}
-use mathlib.Core.List.{List, []}
+use mathlib.Core.List.{List, [], map}
 use lib.ListN.{length, getD, take}
 use Rattle.rules.specs.declared.Report.the-variants.{Full}
 use Rattle.rules.specs.Lists.{greatest, isEmpty}
 use Rattle.rules.specs.Sizes.{mostEntries}
-use Rattle.rules.specs.Graphs.{LineUp}
 use Rattle.rules.specs.Routes.{Plan, putPlan, inForce, ownStage}
 use Rattle.rules.specs.Scores.{isCyclic}
-use Rattle.rules.specs.Shown.{order}
-use Rattle.rules.specs.Reports.{push, seeds, putReport}
+use Rattle.rules.specs.Reports.{headOf, push, seeds, putReport}
 use Rattle.rules.specs.Sound.{Sound}
-use Rattle.edges.specs.Edges.{Model, Holds}
+use Rattle.edges.specs.Edges.{Holds}
 use Rattle.routes.specs.Desks.{edgesOf}
-use Rattle.graphs.specs.Graph.{live, Below}
 use Rattle.graphs.specs.Queue.{Queued}
 use Rattle.kernels.specs.declared.rows.Tail.{Tail}
 use Rattle.kernels.specs.declared.rows.Tail.the-variants.{Is as Upto, Bad as Lost}
-use Rattle.kernels.specs.declared.lines.Lined.{Lined}
-use Rattle.kernels.specs.declared.lines.Lined.the-variants.{All, Stuck, Bad as Broken}
 use Rattle.kernels.specs.Rows.{Short}
 use Rattle.kernels.specs.Lines.{Lows}
 use Rattle.times.specs.declared.settle.Settled.{Settled}
@@ -75,18 +69,6 @@ pub record Seeds (vs : List ℕ) (n : ℕ) (r : Tail) (ring′ : List ℕ) : Typ
   pub short : Short r
   pub is : Lows n vs → Seeding (push [] vs) ring′ r
 
--- ── the verdict ──
-
-abbrev pub Told : Model → ℕ → Lined → Type 0
-Told m n All = (l : List ℕ) × LineUp n (live m) l
-Told m n Stuck = order n (live m) ≡ none
-Told m n Broken = ⊥
-
--- only an edge that appeared can close a cycle
-pub record Judges (e : List ℕ) (n c : ℕ) (r : Lined) : Type 0 where
-  pub told : 0 < c → (m : Model) → Holds e m → Below n m → Told m n r
-  pub spared : c ≡ 0 → r ≡ All
-
 -- ── a put ──
 
 -- owner o puts the entries l: the words sp are those of the plan p, the edges e those after the put
@@ -109,7 +91,7 @@ pub record Mends (e sp ts q : List ℕ) (n : ℕ) (r : Settled) (ts′ : List �
   pub is : (p : Plan) (o : ℕ) (l : List ℕ) → Putting p o l e sp n → ts ≡ timeWords p → q ≡ seeds p o l → isEmpty (seeds p o l) ≡ false
       → isCyclic p ≡ false → isCyclic (putPlan p o l) ≡ false → Refreshed p o l r ts′
 
--- from the heads of the edges that came, c of them, and went
-pub record Refreshes (e sp ts heads : List ℕ) (c n : ℕ) (r : Settled) (ts′ : List ℕ) : Type 0 where
+-- from the heads of the edges that came and went, and of those that came
+pub record Refreshes (e sp ts heads new : List ℕ) (n : ℕ) (r : Settled) (ts′ : List ℕ) : Type 0 where
   pub is : (p : Plan) (o : ℕ) (l : List ℕ) → Putting p o l e sp n → ts ≡ timeWords p → push [] heads ≡ seeds p o l
-      → (c ≡ 0 → ownStage p o l .came ≡ []) → Refreshed p o l r ts′
+      → push [] new ≡ push [] (map headOf (ownStage p o l .came)) → Refreshed p o l r ts′

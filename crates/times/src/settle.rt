@@ -1,11 +1,11 @@
 // After an exchange of edges: the verdict and the starts, as the report says.
 use edges::spans::wide;
 use kernels::lines::Lined;
-use kernels::lines::line_up;
 use kernels::rows::Tail;
 use pulls::fulls::full;
 use rules::Report;
 use tables::u64s::fill;
+use backs::back;
 use walks::walks::Walked;
 use walks::walks::walk;
 ghost use mathlib.Core.Path.{_≡_};
@@ -13,7 +13,8 @@ ghost use mathlib.Core.List.{_∷_, [], _++_};
 ghost use Prim.Native.Nat.{_≤_};
 ghost use lib.ListN.{length, take, drop, replicate};
 ghost use Rattle.rules.specs.Reports.{push};
-ghost use Rattle.times.specs.Settles.{latestOf, Renews, Queues, Seeds, Judges, Mends, Refreshes};
+ghost use Rattle.times.specs.Settles.{latestOf, Renews, Queues, Seeds, Mends, Refreshes};
+ghost use Rattle.backs.specs.Backs.{Judges};
 
 pub enum Settled {
     Is(Report),
@@ -191,16 +192,12 @@ fn follow(
     }
 }
 
-// The verdict, if one of the c edges that appeared may close a cycle.
-fn judge(edges: &[u16], n: usize, c: usize) -> Lined
-    requires { ⌜ (length (now edges) ≡ 13314) × (n ≤ 512) ⌝ }
-    ensures { λ r. ⌜ Judges (now (edges .entry)) n c r ⌝ }
+// The verdict, by the starts before.
+fn judge(edges: &[u16], times: &[u64], came: &[u16], c: usize, n: usize) -> Lined
+    requires { ⌜ (length (now edges) ≡ 13314) × (length (now times) ≡ 514) × (c ≤ length (now came)) × (n ≤ 512) ⌝ }
+    ensures { λ r. ⌜ Judges (now (edges .entry)) (drop 2 (now (times .entry))) (take c (now (came .entry))) n r ⌝ }
 {
-    if c == 0 {
-        return Lined::All;
-    }
-    let mut order = [0u16; 512];
-    line_up(edges, n, &mut order)
+    back::judge(edges, &times[2..514], came, c, n)
 }
 
 // The times after edges came and went.
@@ -219,7 +216,7 @@ pub fn refresh(
     requires { ⌜ (length (now edges) ≡ 13314) × (length (now spans) ≡ 512) × (length (now times) ≡ 514) × (n ≤ 512)
         × (c ≤ length (now came)) × (c ≤ 1024) × (w ≤ length (now went)) × (w ≤ 1024) × (g ≤ length (now gone)) × (g ≤ 1024) ⌝ }
     ensures { λ r. ⌜ Refreshes (now (edges .entry)) (now (spans .entry)) (now (times .entry))
-        (take c (now (came .entry)) ++ (take w (now (went .entry)) ++ take g (now (gone .entry)))) c n r (now (times .exit)) ⌝ }
+        (take c (now (came .entry)) ++ (take w (now (went .entry)) ++ take g (now (gone .entry)))) (take c (now (came .entry))) n r (now (times .exit)) ⌝ }
 {
     if c + w + g == 0 {
         return Settled::Is(Report::Skipped);
@@ -227,7 +224,7 @@ pub fn refresh(
     if times[0] != 0 {
         return anew(edges, spans, times, n);
     }
-    match judge(edges, n, c) {
+    match judge(edges, times, came, c, n) {
         Lined::Bad => Settled::Bad,
         Lined::Stuck => {
             stop(times);

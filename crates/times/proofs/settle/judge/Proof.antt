@@ -4,22 +4,22 @@ use borrow.Author.Needs.{needs}
 use Rattle.times.proofs.settle.judge.Statement.{statement}
 use Rattle.times.proofs.settle.judge.Tie as tie
 
+sub-judge : tie.Need-sub-judge
+sub-judge c = search needs
+
+part-judge-start : tie.Need-part-judge-start
+part-judge-start c = search needs
+
+part-judge-end : tie.Need-part-judge-end
+part-judge-end c = search needs
+
+judge-requires : tie.Need-judge-requires
+judge-requires c κs = search needs
+
 returns : tie.Need-returns
 returns c =
-    let the-if1 = c .if1 in
-    Settling.judges-none (the-if1 .taken)
-
-slice-aggregate-line-up : tie.Need-slice-aggregate-line-up
-slice-aggregate-line-up c = search needs
-
-line-up-requires : tie.Need-line-up-requires
-line-up-requires c κs = search needs
-
-returns-2 : tie.Need-returns-2
-returns-2 c =
-    let the-if1 = c .before .before .before .if1 in
-    let the-line-up = c .before .line-up in
-    Settling.judges-lined (the-if1 .left) (the-line-up .ensures)
+    let start = c .before .before .before .before .before in
+    Settling.judges-part (start .args .times .now) (start .pre .1) (c .judge .ensures)
 
 pub judge-spec : {M : Type 1} → statement M
-judge-spec = tie.close (tie.spec returns slice-aggregate-line-up line-up-requires returns-2)
+judge-spec = tie.close (tie.spec sub-judge part-judge-start part-judge-end judge-requires returns)

@@ -58,9 +58,9 @@ follow-requires c κs = search needs
 
 returns-3 : tie.Need-returns-3
 returns-3 c =
-    let start = c .before .before .before .before .before .before .before .before .before .before .before .before in
-    let the-if1 = c .before .before .before .before .before .if1 in
-    let the-if2 = c .before .before .before .if2 in
+    let start = c .before .before .before .before .before .before .before .before .before .before .before .before .before in
+    let the-if1 = c .before .before .before .before .before .before .if1 in
+    let the-if2 = c .before .before .before .before .if2 in
     let the-judge = c .before .before .judge in
     let the-enum-told = c .enum-told in
     let a = start .args in
@@ -73,10 +73,9 @@ same-length-2 c = search needs
 
 returns-4 : tie.Need-returns-4
 returns-4 c =
-    let back = c .before .before .before .before .before .before .before .before .before .before .before .before in
-    let start = back .before .before .before .before in
-    let the-if1 = c .before .before .before .before .before .before .before .before .before .if1 in
-    let the-if2 = c .before .before .before .before .before .before .before .if2 in
+    let start = c .before .before .before .before .before .before .before .before .before .before .before .before .before .before .before .before .before in
+    let the-if1 = c .before .before .before .before .before .before .before .before .before .before .if1 in
+    let the-if2 = c .before .before .before .before .before .before .before .before .if2 in
     let the-judge = c .before .before .before .before .before .before .judge in
     let the-enum-told2 = c .before .before .before .before .enum-told2 in
     let the-stop = c .before .before .stop in
@@ -90,10 +89,9 @@ same-length-3 c = search needs
 
 returns-5 : tie.Need-returns-5
 returns-5 c =
-    let back = c .before .before .before .before .before .before .before .before .before .before .before .before in
-    let start = back .before .before .before .before in
-    let the-if1 = c .before .before .before .before .before .before .before .before .before .if1 in
-    let the-if2 = c .before .before .before .before .before .before .before .if2 in
+    let start = c .before .before .before .before .before .before .before .before .before .before .before .before .before .before .before .before .before in
+    let the-if1 = c .before .before .before .before .before .before .before .before .before .before .if1 in
+    let the-if2 = c .before .before .before .before .before .before .before .before .if2 in
     let the-judge = c .before .before .before .before .before .before .judge in
     let the-enum-told3 = c .before .before .before .before .enum-told3 in
     let the-follow = c .before .before .follow in
@@ -101,6 +99,9 @@ returns-5 c =
     let p = start .pre in
     let some = Settling.some-heads (a .came .now) (a .went .now) (a .gone .now) (a .c) (a .w) (a .g) (p .4) (p .6) (p .8) (the-if1 .left) in
     Settling.refreshes-walked some (the-if2 .left) (the-judge .ensures) (the-enum-told3 .given .1) (the-follow .ensures)
+
+same-length-4 : tie.Need-same-length-4
+same-length-4 c = search needs
 
 pub refresh-spec : {M : Type 1} → statement M
 refresh-spec =
@@ -119,8 +120,9 @@ refresh-spec =
     stop-requires
     enum-told-3
     follow-requires
-    returns-3
     same-length-2
-    returns-4
+    returns-3
     same-length-3
+    returns-4
+    same-length-4
     returns-5)
