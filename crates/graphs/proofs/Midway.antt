@@ -14,7 +14,8 @@ use Rattle.rules.specs.Scores.{best, start}
 use Rattle.rules.specs.Solved.{Solves}
 use Rattle.rules.proofs.Ranges.{same}
 use Rattle.rules.proofs.Starts.{best-bound, start-solves}
-use Rattle.rules.proofs.Walks.{Mended, mends, upd-set}
+use Rattle.rules.specs.Solved.{Mended}
+use Rattle.rules.proofs.Walks.{mends, upd-set}
 use Rattle.edges.specs.Edges.{Model}
 use Rattle.graphs.specs.Graph.{at, zeros, live, outOf}
 use Rattle.graphs.specs.Queue.{Queued}

@@ -14,7 +14,8 @@ use Rattle.rules.specs.Routes.{Heads, outs, alter, appear}
 use Rattle.rules.specs.Scores.{timesIn}
 use Rattle.rules.proofs.Ranges.{Test, pass, fail, test, clash, same, lt-or-le}
 use Rattle.rules.proofs.Stored.{appear-other}
-use Rattle.rules.proofs.Bounds.{rows-few, edgesOf, times-length}
+use Rattle.rules.specs.Demands.{edgesOf}
+use Rattle.rules.proofs.Bounds.{rows-few, times-length}
 use Rattle.edges.specs.Rows.{flat}
 use Rattle.edges.specs.Edges.{Edge, Model, toOf, Room}
 use Rattle.exchanges.specs.Turns.{tail, head, isEdge, turnOne, ReadyAll}

@@ -11,7 +11,7 @@ use lib.Seq.{take-length, take-take, take-append-le, getD-take}
 use borrow.Author.Tests.{le-ltb}
 use Rattle.rules.specs.declared.Refusal.{Refusal}
 use Rattle.rules.specs.declared.Refusal.the-variants.{ShortStore, BadStore}
-use Rattle.rules.specs.Sizes.{Lent, Loading, isShort}
+use Rattle.rules.specs.Sizes.{Lent, Loading, isShort, baseLength, edgesLength, routesLength, spansLength, timesLength}
 use Rattle.rules.specs.Routes.{Plan, State}
 use Rattle.rules.specs.Scores.{isCyclic}
 use Rattle.rules.specs.Shown.{shownCycle, shownLineUp}
@@ -21,7 +21,8 @@ use Rattle.rules.proofs.Ranges.{Test, pass, fail, test}
 use Rattle.rules.proofs.Refused.{refused-stays, accepted-step, never-twelve}
 use Rattle.rules.proofs.History.{Soundly, passed, step-sound}
 use Rattle.rules.proofs.Plans.{no-shown-line-up}
-use Rattle.rules.proofs.Demands.{Standing, history-stands}
+use Rattle.rules.specs.Demands.{Standing}
+use Rattle.rules.proofs.Demands.{history-stands}
 use Rattle.edges.specs.Edges.{encode as edgeWords}
 use Rattle.routes.specs.Store.{encode as routeWords}
 use Rattle.routes.specs.Desks.{edgesOf, routesOf}
@@ -29,7 +30,7 @@ use Rattle.times.specs.Words.{spanWords, timeWords}
 use Rattle.stores.specs.Words.{baseWords}
 use Rattle.routes.proofs.Wellformed.{has-words}
 use Rattle.stores.specs.Promise.{Slices, lentOf, callOf, Stands, StandsFor, holding, unmarked, leaving, after, Decided}
-use Rattle.refresh.specs.History.{lent, back, Kept, Made, done, call, replies, Begins, zeroed, loaded, reset, Shows, a-cycle, a-line-up, Never}
+use Rattle.refresh.specs.History.{lent, back, Kept, Made, done, call, replies, Begins, zeroed, loaded, reset, Shows, a-cycle, a-line-up, Never, Answered}
 use Rattle.stores.proofs.Openings.{long}
 use Rattle.refresh.proofs.Lengths.{base-long, spans-long, edges-long, routes-long, times-long}
 
@@ -53,38 +54,38 @@ marked-off (a ∷ x) y h = refl
 module _ (k : Lent) (s : Slices) where
   -- a store of which enough is lent is long enough, and so is what is lent
   record Enough : Type 0 where
-    base : (6661 ≤ k .base) × (6661 ≤ length (s .base))
-    spans : (512 ≤ k .spans) × (512 ≤ length (s .spans))
-    edges : (13314 ≤ k .edges) × (13314 ≤ length (s .edges))
-    routes : (1794 ≤ k .routes) × (1794 ≤ length (s .routes))
-    times : (514 ≤ k .times) × (514 ≤ length (s .times))
+    base : (baseLength ≤ k .base) × (baseLength ≤ length (s .base))
+    spans : (spansLength ≤ k .spans) × (spansLength ≤ length (s .spans))
+    edges : (edgesLength ≤ k .edges) × (edgesLength ≤ length (s .edges))
+    routes : (routesLength ≤ k .routes) × (routesLength ≤ length (s .routes))
+    times : (timesLength ≤ k .times) × (timesLength ≤ length (s .times))
 
   enough : isShort (lentOf (lent k s)) ≡ false → Enough
   enough e = let L = long (lentOf (lent k s)) e in record {
-    base = part-long 6661 (k .base) (s .base) (L .base);
+    base = part-long baseLength (k .base) (s .base) (L .base);
     spans = part-long 512 (k .spans) (s .spans) (L .spans);
-    edges = part-long 13314 (k .edges) (s .edges) (L .edges);
-    routes = part-long 1794 (k .routes) (s .routes) (L .routes);
-    times = part-long 514 (k .times) (s .times) (L .times);
+    edges = part-long edgesLength (k .edges) (s .edges) (L .edges);
+    routes = part-long routesLength (k .routes) (s .routes) (L .routes);
+    times = part-long timesLength (k .times) (s .times) (L .times);
   }
 
   not-short : Enough → isShort (lentOf s) ≡ false
   not-short E = rw (
-    le-ltb (length (s .base)) 6661 (E .base .1),
+    le-ltb (length (s .base)) baseLength (E .base .1),
     le-ltb (length (s .spans)) 512 (E .spans .1),
-    le-ltb (length (s .edges)) 13314 (E .edges .1),
-    le-ltb (length (s .routes)) 1794 (E .routes .1),
-    le-ltb (length (s .times)) 514 (E .times .1),
+    le-ltb (length (s .edges)) edgesLength (E .edges .1),
+    le-ltb (length (s .routes)) routesLength (E .routes .1),
+    le-ltb (length (s .times)) timesLength (E .times .1),
   )
 
   -- what is lent stands for what the store stands for
   lent-as : (t : State) → Enough → Stands s t → Stands (lent k s) t
   lent-as none E S = getD-take (k .base) (s .base) 0 0 (let x = E .base .0 in omega arith) ∙ S
   lent-as (some p) E H = record {
-    base = take-take 6661 (k .base) (s .base) (E .base .0) ∙ H .base;
+    base = take-take baseLength (k .base) (s .base) (E .base .0) ∙ H .base;
     spans = take-take 512 (k .spans) (s .spans) (E .spans .0) ∙ H .spans;
-    desk = rw (take-take 1794 (k .routes) (s .routes) (E .routes .0), take-take 13314 (k .edges) (s .edges) (E .edges .0)) (H .desk);
-    times = take-take 514 (k .times) (s .times) (E .times .0) ∙ H .times;
+    desk = rw (take-take routesLength (k .routes) (s .routes) (E .routes .0), take-take edgesLength (k .edges) (s .edges) (E .edges .0)) (H .desk);
+    times = take-take timesLength (k .times) (s .times) (E .times .0) ∙ H .times;
   }
 
   lent-stands : (t : State) → StandsFor s t → StandsFor (lent k s) t
@@ -95,13 +96,13 @@ module _ (k : Lent) (s : Slices) where
   unfolding holding unmarked
   left-stands none S E = marked-off (take (k .base) (s .base)) (drop (k .base) (s .base)) (simp length-take (let x = E .base in omega arith))
   left-stands (some q) S E = let D = has-words q S in record {
-    base = given-back 6661 (k .base) (baseWords (q .base)) (s .base) (base-long (q .base) (S .loaded));
+    base = given-back baseLength (k .base) (baseWords (q .base)) (s .base) (base-long (q .base) (S .loaded));
     spans = given-back 512 (k .spans) (spanWords (q .base)) (s .spans) (spans-long (q .base));
     desk = rw (
-      given-back 1794 (k .routes) (routeWords (routesOf q)) (s .routes) (routes-long (D .routes)),
-      given-back 13314 (k .edges) (edgeWords (edgesOf q)) (s .edges) (edges-long (edgesOf q) (D .edges .wf)),
+      given-back routesLength (k .routes) (routeWords (routesOf q)) (s .routes) (routes-long (D .routes)),
+      given-back edgesLength (k .edges) (edgeWords (edgesOf q)) (s .edges) (edges-long (edgesOf q) (D .edges .wf)),
     ) D;
-    times = given-back 514 (k .times) (timeWords q) (s .times) (times-long q);
+    times = given-back timesLength (k .times) (timeWords q) (s .times) (times-long q);
   }
 
 -- ── one call ──
@@ -256,17 +257,6 @@ shows p S = go (test (isCyclic p))
     go (fail e) = let C = S .calm e in rw (C .shown) (a-line-up e (C .lowest))
 
 -- ── the theorem ──
-
--- after the calls cs, answered rs, in the store s
-pub record Answered (cs : List Call) (rs : List Reply) (s : Slices) : Type 0 where
-  -- every reply is the rules', refused calls and waiting retractions included
-  pub replied : rs ≡ replies none cs
-  -- "12 is never given for such a store"
-  pub known : Never rs
-  -- the store stands for what the history leaves
-  pub stands : StandsFor s (run none cs)
-  -- of which demand 3 holds: cyclic exactly if there is no line-up, and then cycle, penalty and makespan; else line-up, starts and makespan
-  pub plan : (p : Plan) → run none cs ≡ some p → Standing p × Shows p (verdictOf (shownLineUp p) (shownCycle p))
 
 pub history : {s s″ : Slices} {cs : List Call} {rs : List Reply} → Begins s cs → Made s cs rs s″ → Answered cs rs s″
 history {cs = cs} B M =

@@ -5,7 +5,7 @@ use mathlib.Core.Path.{_≡_}
 use mathlib.Core.List.{List, _∷_, _++_}
 use lib.ListN.{length, length-append, length-map}
 use Rattle.rules.specs.Lists.{Pair, table}
-use Rattle.rules.specs.Sizes.{Base, expectedOf, duration, mostJobs, mostFixed}
+use Rattle.rules.specs.Sizes.{Base, expectedOf, duration, mostJobs, mostFixed, baseLength, edgesLength, routesLength, timesLength}
 use Rattle.rules.specs.Routes.{Plan}
 use Rattle.rules.specs.Sound.{Loaded}
 use Rattle.rules.proofs.Tabled.{table-length}
@@ -17,9 +17,9 @@ use Rattle.routes.specs.Store.{Model, Holds, encode as routeWords, front}
 use Rattle.routes.proofs.Waits.{front-length, waits-few}
 use Rattle.times.specs.Words.{spanWords, timeWords, startOf}
 use Rattle.stores.specs.Words.{padded, froms, tos, baseWords}
-use Rattle.loads.proofs.Laying.{padded-length}
+use Rattle.stores.proofs.Laying.{padded-length}
 
-pub base-long : (b : Base) → Loaded b → length (baseWords b) ≡ 6661
+pub base-long : (b : Base) → Loaded b → length (baseWords b) ≡ baseLength
 unfolding baseWords
 base-long b L =
     let f = padded-length mostFixed (froms b) 0 (let x = length-map (b .fixed) (λ (e : Pair). e .0) in let y = L .fixed in omega arith) in
@@ -33,11 +33,11 @@ pub spans-long : (b : Base) → length (spanWords b) ≡ 512
 unfolding spanWords
 spans-long b = table-length mostJobs (duration b)
 
-pub times-long : (p : Plan) → length (timeWords p) ≡ 514
+pub times-long : (p : Plan) → length (timeWords p) ≡ timesLength
 unfolding timeWords
 times-long p = let x = table-length mostJobs (startOf p) in omega arith
 
-pub edges-long : (m : EdgeModel) → EdgesWf m → length (edgeWords m) ≡ 13314
+pub edges-long : (m : EdgeModel) → EdgesWf m → length (edgeWords m) ≡ edgesLength
 unfolding edgeWords tabs
 edges-long m w =
     let a = length-append (so m) (st m ++ (sc m ++ (po m ++ pf m))) in
@@ -46,7 +46,7 @@ edges-long m w =
     let d = length-append (po m) (pf m) in
     omega (arith, so-long m w, st-long m w, sc-long m w, po-long m w, pf-long m w)
 
-pub routes-long : {l : List ℕ} {m : Model} → Holds l m → length (routeWords m) ≡ 1794
+pub routes-long : {l : List ℕ} {m : Model} → Holds l m → length (routeWords m) ≡ routesLength
 unfolding routeWords
 routes-long {m = m} h =
     let a = length-append (front m) (length (m .waiting) ∷ pad 64 (m .waiting)) in

@@ -1,4 +1,7 @@
 -- Laws that belong to no one function. Assumes nothing.
+pub mod Checking
+pub mod Fresh
+pub mod Accepting
 pub mod Lengths
 pub mod Showing
 pub mod Putting

@@ -16,7 +16,7 @@ use Rattle.rules.specs.declared.Report.{Report}
 use Rattle.rules.specs.declared.Refusal.{Refusal}
 use Rattle.rules.specs.declared.Refusal.the-variants.{NoRoom, BadStore, NoSuchOwner, TooManyEntries}
 use Rattle.rules.specs.Lists.{Pair, table, memb}
-use Rattle.rules.specs.Sizes.{Base, Lent, expectedOf, isShort, mostEntries, mostFixed, mostJobs, mostOwners, nobodys}
+use Rattle.rules.specs.Sizes.{Base, Lent, expectedOf, isShort, mostEntries, mostFixed, mostJobs, mostOwners, nobodys, baseLength, edgesLength, routesLength, spansLength, timesLength}
 use Rattle.rules.specs.Routes.{Plan, putPlan, inForce}
 use Rattle.rules.specs.Refusals.{Check, firstOf, noOwner, tooMany, noRoom, numberOf}
 use Rattle.rules.specs.Scores.{invalidFixed, score, minusOf}
@@ -49,7 +49,7 @@ use Rattle.stores.specs.Promise.{checksBy, Heeds, Slices, slices, lentOf, callO
 use Rattle.stores.specs.Sums.{scoredAt}
 use Rattle.refresh.specs.Changes.{saysChanged, Worded, Puts, Follows, Changes}
 use Rattle.stores.proofs.Tabled.{table-at, part-slice}
-use Rattle.loads.proofs.Laying.{padded-length}
+use Rattle.stores.proofs.Laying.{padded-length}
 use Rattle.stores.proofs.Openings.{Opened, open-is}
 use Rattle.stores.proofs.Promises.{closed-kept, opened-kept, decided-refused, refusal-long, held-same, heeds-first, heeds-later}
 use Rattle.stores.proofs.Scores.{scored-held, scored-twelve}
@@ -80,9 +80,9 @@ module _ (b : Base) (few : length (b .fixed) ≤ mostFixed) where
       (sym (append-assoc (padded mostFixed (froms b)) (padded mostFixed (tos b)) (table mostJobs (expectedOf b))))
       ∙ drop-at ahead (table mostJobs (expectedOf b)) 6149 ahead-length
 
-stated : (b : Base) (l : List ℕ) → Loaded b → take 6661 l ≡ baseWords b → Stated (b .jobs) (take 512 (drop 6149 l)) b
+stated : (b : Base) (l : List ℕ) → Loaded b → take baseLength l ≡ baseWords b → Stated (b .jobs) (take 512 (drop 6149 l)) b
 stated b l L e v h =
-    ap (λ (x : List ℕ). getD x v nobodys) (part-slice 6149 6661 l (omega arith) ∙ ap (drop 6149) e ∙ behind-ahead b (L .fixed))
+    ap (λ (x : List ℕ). getD x v nobodys) (part-slice 6149 baseLength l (omega arith) ∙ ap (drop 6149) e ∙ behind-ahead b (L .fixed))
     ∙ table-at mostJobs (expectedOf b) v nobodys (let x = L .jobs in omega arith)
 
 -- a put leaves the base
@@ -169,8 +169,8 @@ module _ {base sp e r ts e′ r′ came came′ went went′ gone gone′ : List
 -- slices of the lengths that `rescore` asks for
 abbrev pub Cut : Slices → Type 0
 Cut s =
-    (6661 ≤ length (s .base)) × (length (s .spans) ≡ 512) × (length (s .edges) ≡ 13314) × (length (s .routes) ≡ 1794)
-    × (length (s .times) ≡ 514)
+    (baseLength ≤ length (s .base)) × (length (s .spans) ≡ 512) × (length (s .edges) ≡ edgesLength) × (length (s .routes) ≡ routesLength)
+    × (length (s .times) ≡ timesLength)
 
 module _ {s : Slices} (C : Cut s) where
   worded-held : (p : Plan) → Worded s p → Held s p
@@ -178,10 +178,10 @@ module _ {s : Slices} (C : Cut s) where
     base = W .base;
     spans = take-all 512 (s .spans) (let x = C .1 in omega arith) ∙ W .spans;
     desk = rw (
-      take-all 1794 (s .routes) (let x = C .3 in omega arith),
-      take-all 13314 (s .edges) (let x = C .2 in omega arith),
+      take-all routesLength (s .routes) (let x = C .3 in omega arith),
+      take-all edgesLength (s .edges) (let x = C .2 in omega arith),
     ) (W .desk);
-    times = take-all 514 (s .times) (let x = C .4 in omega arith) ∙ W .times;
+    times = take-all timesLength (s .times) (let x = C .4 in omega arith) ∙ W .times;
   }
 
   scored-worded : {n : ℕ} {a : scored.Scored} → a ≡ scoredAt (s .base) (s .routes) (s .times) n → (p : Plan) → n ≡ p .base .jobs
@@ -278,22 +278,22 @@ asked-few j n o k i h q e = let (x, y) = ask-fine-is n o k (sym e ∙ q) in (i, 
 
 -- the slices cut to their constants
 abbrev pub cut : Slices → Slices
-cut s = slices (s .base) (take 512 (s .spans)) (take 13314 (s .edges)) (take 1794 (s .routes)) (take 514 (s .times))
+cut s = slices (s .base) (take spansLength (s .spans)) (take edgesLength (s .edges)) (take routesLength (s .routes)) (take timesLength (s .times))
 
 -- the edges, routes and times of u in front, and what lay beyond the constants
 abbrev pub glued : Slices → Slices → Slices
 glued s u =
-    slices (s .base) (s .spans) (u .edges ++ drop 13314 (s .edges)) (u .routes ++ drop 1794 (s .routes)) (u .times ++ drop 514 (s .times))
+    slices (s .base) (s .spans) (u .edges ++ drop edgesLength (s .edges)) (u .routes ++ drop routesLength (s .routes)) (u .times ++ drop timesLength (s .times))
 
 glued-same : (s : Slices) → glued s (cut s) ≡ s
-glued-same s = rw (take-append-drop 13314 (s .edges), take-append-drop 1794 (s .routes), take-append-drop 514 (s .times))
+glued-same s = rw (take-append-drop edgesLength (s .edges), take-append-drop routesLength (s .routes), take-append-drop timesLength (s .times))
 
 module _ (s : Slices) (p : Plan) (H : Held s p) where
-  held-base : baseWords (p .base) ++ drop 6661 (s .base) ≡ s .base
+  held-base : baseWords (p .base) ++ drop baseLength (s .base) ≡ s .base
   unfolding holding
   held-base = ap (λ (x : Slices). x .base) (sym (held-same s p H))
 
-  held-spans : spanWords (p .base) ++ drop 512 (s .spans) ≡ s .spans
+  held-spans : spanWords (p .base) ++ drop spansLength (s .spans) ≡ s .spans
   unfolding holding
   held-spans = ap (λ (x : Slices). x .spans) (sym (held-same s p H))
 
@@ -328,9 +328,9 @@ module _ (s : Slices) (o : ℕ) (l : List ℕ) {h : Header} (opens : h ≡ openO
         (heeds-first (to-put o l) s opens [] (rw is (sym asked-counts ∙ e)))
 
     module _ (fine : a ≡ Fine) {x : Changed} {e r ts : List ℕ}
-        (X : Changes (cut s) (slices (s .base) (take 512 (s .spans)) e r ts) (plan .jobs) o l x) where
+        (X : Changes (cut s) (slices (s .base) (take spansLength (s .spans)) e r ts) (plan .jobs) o l x) where
       abbrev left : Slices
-      left = slices (s .base) (take 512 (s .spans)) e r ts
+      left = slices (s .base) (take spansLength (s .spans)) e r ts
 
       module _ (f : isShort (lentOf s) ≡ false) (p : Plan) (H : Held s p) (q : plan ≡ countsOf (p .base)) where
         -- 7 is left to ask

@@ -11,7 +11,7 @@ use borrow.Author.Tests.{lt-ltb, le-ltb}
 use Rattle.rules.specs.declared.Plan.{Plan as Counts}
 use Rattle.rules.specs.declared.Refusal.{Refusal}
 use Rattle.rules.specs.declared.Refusal.the-variants.{ShortAnswer, BadStore}
-use Rattle.rules.specs.Sizes.{isShort}
+use Rattle.rules.specs.Sizes.{isShort, edgesLength, mostJobs}
 use Rattle.rules.specs.Routes.{Plan}
 use Rattle.rules.specs.Shown.{order, cycle, shownLineUp, shownCycle}
 use Rattle.rules.specs.Calls.{to-verdict, Reply, refused, lined-up, cycled, verdictOf, accepted}
@@ -68,7 +68,7 @@ module _ {e o′ : List ℕ} {n : ℕ} {r : Tail} (C : Cycles e n r o′) (out :
     cycle-shown : (c : Option (List ℕ)) → cycle n (liveIn (edgesOf p)) ≡ c → shownCycle p ≡ c
     cycle-shown c x = sym (cycle-is p S) ∙ ap (λ (k : ℕ). cycle k (liveIn (edgesOf p))) (sym j) ∙ x
 
-    cycled-is : (k : ℕ) → Looped (edgesOf p) n o′ (Upto k) → length o′ ≡ 512 → k ≤ 512 → k ≤ length out → shownLineUp p ≡ none
+    cycled-is : (k : ℕ) → Looped (edgesOf p) n o′ (Upto k) → length o′ ≡ mostJobs → k ≤ 512 → k ≤ length out → shownLineUp p ≡ none
         → {out′ : List ℕ} → out′ ≡ sets out 0 (take k o′) → Showing p out (Cycle k) out′
     unfolding places
     cycled-is zero L len h i x w = record { says = rw (x, cycle-shown none L); answers = w }
@@ -86,7 +86,7 @@ module _ {e o′ : List ℕ} {n : ℕ} {r : Tail} (C : Cycles e n r o′) (out :
       go m zero h L = omega arith
       go m (suc k) h (a, L) = omega arith
 
-  pub closing-shown : (k : ℕ) → r ≡ Upto k → k ≤ n → n ≤ 512 → n ≤ length out → length o′ ≡ 512 → {out′ : List ℕ}
+  pub closing-shown : (k : ℕ) → r ≡ Upto k → k ≤ n → n ≤ mostJobs → n ≤ length out → length o′ ≡ mostJobs → {out′ : List ℕ}
       → out′ ≡ sets out 0 (take k o′) → Closing e n out (Cycle k) out′
   closing-shown k q h i l len w = record {
     twelve = λ j e. absurd (let z : _≡_ {A = ℕ} 0 1 = cc in omega arith);
@@ -107,7 +107,7 @@ module _ {e o′ : List ℕ} {n : ℕ} {r : Lined} (L : Lowest e n r o′) (out 
   pub shows-closed : r ≡ Stuck → {v : Judged} {out′ : List ℕ} → Closing e n out v out′ → Shows e n out v out′
   shows-closed q C = record { twelve = C .twelve; is = λ p S H j. C .is p S H j (line-up-shown p S H j none (rw q at (lined p S H j))) }
 
-  pub shows-lined : r ≡ All → n ≤ 512 → n ≤ length out → length o′ ≡ 512 → {out′ : List ℕ} → out′ ≡ sets out 0 (take n o′)
+  pub shows-lined : r ≡ All → n ≤ mostJobs → n ≤ length out → length o′ ≡ mostJobs → {out′ : List ℕ} → out′ ≡ sets out 0 (take n o′)
       → Shows e n out (LineUp n) out′
   shows-lined q i l len {out′} w = record {
     twelve = λ j e. absurd (let z : _≡_ {A = ℕ} 0 1 = cc in omega arith);
@@ -137,7 +137,7 @@ module _ (s : Slices) (out : List ℕ) {h : Header} (opens : h ≡ openOf (lentO
         (refusal-long (some p) (to-verdict (length out)) s f ∙ rw (le-ltb (length out) (p .base .jobs) k)) out r refl (sym e)
 
     pub verdict-shown : {n : ℕ} {v : Judged} {out′ : List ℕ} → n ≡ plan .jobs → n ≤ length out
-        → Shows (take 13314 (s .edges)) n out v out′ → Promise (to-verdict (length out)) s s out out′ (saysVerdict out′ v)
+        → Shows (take edgesLength (s .edges)) n out v out′ → Promise (to-verdict (length out)) s s out out′ (saysVerdict out′ v)
     verdict-shown {n} {v} {out′} m k X = opened-kept (to-verdict (length out)) s opens s out out′ (saysVerdict out′ v) is (λ f p H q.
         let m′ : n ≡ p .base .jobs = m ∙ ap (λ (c : Counts). c .jobs) q in
         let x = X .is p (H .desk .sound) (H .desk .edges) m′ in

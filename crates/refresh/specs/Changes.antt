@@ -6,7 +6,7 @@ use mathlib.Core.List.{List}
 use lib.ListN.{length, take}
 use Rattle.rules.specs.declared.Refusal.{Refusal}
 use Rattle.rules.specs.declared.Refusal.the-variants.{NoRoom, BadStore}
-use Rattle.rules.specs.Sizes.{mostEntries}
+use Rattle.rules.specs.Sizes.{mostEntries, baseLength}
 use Rattle.rules.specs.Routes.{Plan, putPlan, inForce}
 use Rattle.rules.specs.Scores.{score, minusOf}
 use Rattle.rules.specs.Reports.{putReport}
@@ -27,7 +27,7 @@ saysChanged (Refused r) = refused r
 
 -- slices cut to their constants hold the words of the plan p; the base may be longer
 pub record Worded (s : Slices) (p : Plan) : Type 0 where
-  pub base : take 6661 (s .base) ≡ baseWords (p .base)
+  pub base : take baseLength (s .base) ≡ baseWords (p .base)
   pub spans : s .spans ≡ spanWords (p .base)
   pub desk : Desked (s .routes) (s .edges) p
   pub times : s .times ≡ timeWords p

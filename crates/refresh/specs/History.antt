@@ -3,7 +3,7 @@
 use Prim.Native.Nat.{ℕ}
 use mathlib.Core.Path.{_≡_}
 use mathlib.Core.Bool.{true, false}
-use mathlib.Core.Option.{none}
+use mathlib.Core.Option.{none, some}
 use mathlib.Core.List.{List, [], _∷_, _++_}
 use lib.ListN.{getD, take, drop}
 use Rattle.rules.specs.Sizes.{Lent, Loading}
@@ -12,8 +12,10 @@ use Rattle.rules.specs.Graphs.{LowestCycle, LowestLineUp}
 use Rattle.rules.specs.Routes.{Plan, State, live}
 use Rattle.rules.specs.Scores.{isCyclic}
 use Rattle.rules.specs.Calls.{Ask, Call, Reply, to-load, to-reset, to-retract, to-put, to-score, to-verdict, to-starts, to-blocks, to-move}
-use Rattle.rules.specs.Calls.{refused, lined-up, cycled, refusal, step, reply}
-use Rattle.stores.specs.Promise.{Slices, slices, callOf, Promise, AnyPromise}
+use Rattle.rules.specs.Calls.{refused, lined-up, cycled, refusal, step, reply, run, verdictOf}
+use Rattle.rules.specs.Demands.{Standing}
+use Rattle.rules.specs.Shown.{shownCycle, shownLineUp}
+use Rattle.stores.specs.Promise.{Slices, slices, callOf, Promise, AnyPromise, StandsFor}
 
 -- ── one call ──
 
@@ -83,3 +85,16 @@ pub data Shows (p : Plan) : Reply → Type 0 where
 abbrev pub Never : List Reply → Type 0
 Never [] = Unit {0}
 Never (r ∷ rs) = (r ≡ refused BadStore → ⊥) × Never rs
+
+-- ── demand 3, of the code: `history` in proofs/Histories shows it ──
+
+-- after the calls cs, answered rs, in the store s
+pub record Answered (cs : List Call) (rs : List Reply) (s : Slices) : Type 0 where
+  -- every reply is the rules', refused calls and waiting retractions included
+  pub replied : rs ≡ replies none cs
+  -- "12 is never given for such a store"
+  pub known : Never rs
+  -- the store stands for what the history leaves
+  pub stands : StandsFor s (run none cs)
+  -- of which demand 3 holds: cyclic exactly if there is no line-up, and then cycle, penalty and makespan; else line-up, starts and makespan
+  pub plan : (p : Plan) → run none cs ≡ some p → Standing p × Shows p (verdictOf (shownLineUp p) (shownCycle p))

@@ -19,6 +19,7 @@ ghost use mathlib.Core.List.{[]};
 ghost use Prim.Native.Nat.{_≤_, _<_};
 ghost use lib.ListN.{length};
 ghost use Rattle.rules.specs.Calls.{to-put};
+ghost use Rattle.rules.specs.Sizes.{baseLength, edgesLength, mostEntries, mostJobs, mostOwners, routesLength, spansLength, timesLength};
 ghost use Rattle.stores.specs.Promise.{Promise, slices};
 ghost use Rattle.refresh.specs.Changes.{Follows, Changes, saysChanged};
 
@@ -43,20 +44,20 @@ fn change(
     owner: Owner,
     entries: &[u32],
 ) -> Followed
-    requires { ⌜ (6661 ≤ length (now base)) × (length (now spans) ≡ 512) × (length (now edges) ≡ 13314) × (length (now routes) ≡ 1794)
-        × (length (now times) ≡ 514) ⌝ }
-    requires { ⌜ (plan .jobs ≤ 512) × (owner .0 < 64) × (length (now entries) ≤ 1024) ⌝ }
+    requires { ⌜ (baseLength ≤ length (now base)) × (length (now spans) ≡ spansLength) × (length (now edges) ≡ edgesLength) × (length (now routes) ≡ routesLength)
+        × (length (now times) ≡ timesLength) ⌝ }
+    requires { ⌜ (plan .jobs ≤ mostJobs) × (owner .0 < mostOwners) × (length (now entries) ≤ mostEntries) ⌝ }
     ensures { λ r. ⌜ Follows (slices (now (base .entry)) (now (spans .entry)) (now (edges .entry)) (now (routes .entry)) (now (times .entry)))
         (slices (now (base .entry)) (now (spans .entry)) (now (edges .exit)) (now (routes .exit)) (now (times .exit)))
         (plan .jobs) (owner .0) (now (entries .entry)) r ⌝ }
 {
-    let mut came = [0u16; 1024];
-    let mut went = [0u16; 1024];
-    let mut gone = [0u16; 1024];
+    let mut came = [0u16; Plan::ENTRIES];
+    let mut went = [0u16; Plan::ENTRIES];
+    let mut gone = [0u16; Plan::ENTRIES];
     match puts::put::put(
         routes,
         edges,
-        &base[6149..6661],
+        &base[6149..Plan::BASE],
         plan.jobs,
         owner.0,
         entries,
@@ -95,9 +96,9 @@ fn rescore(
     owner: Owner,
     entries: &[u32],
 ) -> Changed
-    requires { ⌜ (6661 ≤ length (now base)) × (length (now spans) ≡ 512) × (length (now edges) ≡ 13314) × (length (now routes) ≡ 1794)
-        × (length (now times) ≡ 514) ⌝ }
-    requires { ⌜ (plan .jobs ≤ 512) × (owner .0 < 64) × (length (now entries) ≤ 1024) ⌝ }
+    requires { ⌜ (baseLength ≤ length (now base)) × (length (now spans) ≡ spansLength) × (length (now edges) ≡ edgesLength) × (length (now routes) ≡ routesLength)
+        × (length (now times) ≡ timesLength) ⌝ }
+    requires { ⌜ (plan .jobs ≤ mostJobs) × (owner .0 < mostOwners) × (length (now entries) ≤ mostEntries) ⌝ }
     ensures { λ r. ⌜ Changes (slices (now (base .entry)) (now (spans .entry)) (now (edges .entry)) (now (routes .entry)) (now (times .entry)))
         (slices (now (base .entry)) (now (spans .entry)) (now (edges .exit)) (now (routes .exit)) (now (times .exit)))
         (plan .jobs) (owner .0) (now (entries .entry)) r ⌝ }
@@ -144,10 +145,10 @@ pub fn put(
             Ask::TooManyEntries => Changed::Refused(Refusal::TooManyEntries),
             Ask::Fine => rescore(
                 base,
-                &spans[..512],
-                &mut edges[..13314],
-                &mut routes[..1794],
-                &mut times[..514],
+                &spans[..Plan::SPANS],
+                &mut edges[..Plan::EDGES],
+                &mut routes[..Plan::ROUTES],
+                &mut times[..Plan::TIMES],
                 plan,
                 owner,
                 entries,

@@ -1,6 +1,7 @@
 // The shown line-up, or the shown cycle.
 use kernels::lines::Lined;
 use kernels::rows::Tail;
+use rules::Plan;
 use rules::Refusal;
 use searches::cycles::cycle;
 use searches::lowests::lowest_up;
@@ -12,6 +13,7 @@ ghost use Prim.Native.Nat.{_≤_};
 ghost use lib.ListN.{length, take};
 ghost use lib.Seq.{sets};
 ghost use Rattle.rules.specs.Calls.{to-verdict};
+ghost use Rattle.rules.specs.Sizes.{edgesLength, mostJobs};
 ghost use Rattle.stores.specs.Promise.{Promise, slices};
 ghost use Rattle.refresh.specs.Shows.{Closing, Shows, saysVerdict};
 
@@ -35,10 +37,10 @@ pub fn show(out: &mut [u32], jobs: &[u16], k: usize)
 
 // There is no line-up: the cycle.
 fn closed(edges: &[u16], n: usize, out: &mut [u32]) -> Judged
-    requires { ⌜ (length (now edges) ≡ 13314) × (n ≤ 512) × (n ≤ length (now out)) ⌝ }
+    requires { ⌜ (length (now edges) ≡ edgesLength) × (n ≤ mostJobs) × (n ≤ length (now out)) ⌝ }
     ensures { λ r. ⌜ Closing (now (edges .entry)) n (now (out .entry)) r (now (out .exit)) ⌝ }
 {
-    let mut jobs = [0u16; 512];
+    let mut jobs = [0u16; Plan::JOBS];
     match cycle(edges, n, &mut jobs) {
         Tail::Bad => Judged::Refused(Refusal::BadStore),
         Tail::Is(k) => {
@@ -53,10 +55,10 @@ fn closed(edges: &[u16], n: usize, out: &mut [u32]) -> Judged
 
 // The line-up, or the cycle.
 fn shown(edges: &[u16], n: usize, out: &mut [u32]) -> Judged
-    requires { ⌜ (length (now edges) ≡ 13314) × (n ≤ 512) × (n ≤ length (now out)) ⌝ }
+    requires { ⌜ (length (now edges) ≡ edgesLength) × (n ≤ mostJobs) × (n ≤ length (now out)) ⌝ }
     ensures { λ r. ⌜ Shows (now (edges .entry)) n (now (out .entry)) r (now (out .exit)) ⌝ }
 {
-    let mut jobs = [0u16; 512];
+    let mut jobs = [0u16; Plan::JOBS];
     match lowest_up(edges, n, &mut jobs) {
         Lined::Bad => Judged::Refused(Refusal::BadStore),
         Lined::All => {
@@ -87,7 +89,7 @@ pub fn verdict(
             if out.len() < n {
                 return Judged::Refused(Refusal::ShortAnswer);
             }
-            shown(&edges[..13314], n, out)
+            shown(&edges[..Plan::EDGES], n, out)
         }
     }
 }

@@ -18,7 +18,8 @@ use Rattle.rules.proofs.Ranges.{clash, same, lt-or-le, count-less, count-same, 
 use Rattle.rules.proofs.Members.{or-true}
 use Rattle.rules.proofs.Tabled.{table-length, table-at, table-past, map-table}
 use Rattle.rules.proofs.Puts.{live-inside}
-use Rattle.rules.proofs.Bounds.{edgesOf as edgesIn, sum-places, edges-few}
+use Rattle.rules.specs.Demands.{edgesOf as edgesIn}
+use Rattle.rules.proofs.Bounds.{sum-places, edges-few}
 use Rattle.edges.specs.Rows.{flat}
 use Rattle.edges.specs.Edges.{Edge, Wf, encode as edgeWords, toOf, timesOf, hasEdge, memb, AllPos, Once as EdgesOnce}
 use Rattle.exchanges.specs.Stops.{word, words}

@@ -9,6 +9,7 @@ use native.Mathlib.Nat.{not-suc-le-zero, mul-le-mul-right}
 use lib.Dec.{eqb, ltb}
 use lib.ListN.{length, getD, length-append}
 use borrow.Author.Tests.{eq-eqb, ne-eqb}
+use Rattle.rules.specs.Demands.{edgesOf}
 use Rattle.rules.specs.Graphs.{Graph, Leads, along, here}
 use Rattle.rules.specs.Lists.{Once, Pair, greatest, isZero, keep, memb, samePair, sumBelow, sumOf, tick, times}
 use Rattle.rules.specs.Routes.{Heads, Plan, Route, Stop, butLast, emptyRoute, holders, inForce, jobsOf, lastFirst, links, linksOf}
@@ -200,10 +201,6 @@ heads-few u (e ∷ m) l o h = go (same u (e .0)) (λ l′. heads-few u m l′)
         let b = vanish-length (e .1) l in
         rw (eq-eqb u (e .0) q) (omega arith)
     go (inr q) ih = rw (ne-eqb u (e .0) q) (let a = ih l o (λ v k. other v k (inr q)) in omega arith)
-
--- how many edges are live
-abbrev pub edgesOf : Heads → ℕ
-edgesOf t = sumOf (λ (l : List ℕ). length l) t
 
 -- lists that hold no head twice, and only heads of edges of m, have no more edges than m
 pub rows-few : (t : Heads) (m : List Pair) → ((u : ℕ) → Once (outs t u)) → ((u v : ℕ) → memb v (outs t u) ≡ true → 0 < times (u, v) m)

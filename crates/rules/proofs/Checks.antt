@@ -16,7 +16,7 @@ use borrow.Author.Tests.{eq-eqb, eqb-true, not-true, ltb-true, leb-true}
 use Rattle.rules.specs.Graphs.{Cycle, Graph, Trail, end, go}
 use Rattle.rules.specs.Lists.{Once, Pair, allBelow, count, distinct, isZero, less, memb, nobody, samePair, sumBelow, sumOf, tick}
 use Rattle.rules.specs.Lists.{times}
-use Rattle.rules.specs.Moves.{Move, added, fullCheck, goodPositions, insertAt, isFixed, isMovedCyclic, isMovedQuick, leads}
+use Rattle.rules.specs.Moves.{AddedCycle, Move, added, fullCheck, goodPositions, insertAt, isFixed, isMovedCyclic, isMovedQuick, leads, movedAdded, stepsOf}
 use Rattle.rules.specs.Moves.{list-change, moved, movedOn, movedStays, neighbours, newRoute, occurs, permutation, quickCheck}
 use Rattle.rules.specs.Moves.{remove, slice, sublist-change, sublist-swap, swapped}
 use Rattle.rules.specs.Routes.{Plan, Stop, invalidOf, jobsOf, links, linksOf, live, read, routeOf, stopsOf}
@@ -67,10 +67,6 @@ occurs-either a b l u v h = look (test (samePair (u, v) (a, b)))
     look (fail e) = inr (rw e at h)
 
 -- ── the steps of a cycle ──
-
--- of the cycle that l lists from v: from each job to the next, and from the last back to v
-abbrev pub stepsOf : ℕ → List ℕ → List Pair
-stepsOf v l = neighbours (l ++ v ∷ [])
 
 module _ (n : ℕ) (E : Graph) where
   trail-steps : {w x : ℕ} {l : List ℕ} (a : ℕ) → Trail n E w l x → stepsOf x (a ∷ l) ≡ (a, w) ∷ stepsOf x l
@@ -232,10 +228,6 @@ trail-more n E F f (go h e t) = go h (f _ _ e) (trail-more n E F f t)
 
 -- ── the checks of a plan ──
 
--- "Added: the reverse."
-abbrev pub movedAdded : Plan → ℕ → Move → Graph
-movedAdded p o m = added (neighbours (jobsOf (routeOf p o))) (neighbours (newRoute p o m)) (live p) (isFixed p)
-
 -- an edge that is on and was not already on is added
 pub fresh-added : (p : Plan) (o : ℕ) (m : Move) (u v : ℕ) → movedOn p o m u v ≡ true → movedStays p o m u v ≡ false
     → movedAdded p o m u v ≡ true
@@ -259,17 +251,6 @@ pub full-check : (p : Plan) (o : ℕ) (m : Move)
     → (isMovedCyclic p o m ≡ true) ↔ ((v : ℕ) × (l : List ℕ) × Cycle (p .base .jobs) (movedOn p o m) v l)
 unfolding isMovedCyclic
 full-check p o m = full-cycle (p .base .jobs) (movedOn p o m)
-
--- some cycle of the edges that are on uses an added edge that was not already on
-pub record AddedCycle (p : Plan) (o : ℕ) (m : Move) : Type 0 where
-  pub job : ℕ
-  pub list : List ℕ
-  pub is : Cycle (p .base .jobs) (movedOn p o m) job list
-  pub tail : ℕ
-  pub head : ℕ
-  pub step : occurs (stepsOf job list) tail head ≡ true
-  pub joins : movedAdded p o m tail head ≡ true
-  pub was-off : movedStays p o m tail head ≡ false
 
 -- "Quick check: yes exactly if some cycle of them uses an added edge that was not already on."
 pub quick-check : (p : Plan) (o : ℕ) (m : Move) → (isMovedQuick p o m ≡ true) ↔ AddedCycle p o m

@@ -12,44 +12,12 @@ use Rattle.rules.specs.Scores.{Within, cyclePenalty, finish, floorOf, is
 use Rattle.rules.specs.Shown.{shownCycle, shownLineUp}
 use Rattle.rules.specs.Sizes.{duration, longest, mostEntries, mostFixed, mostJobs}
 use Rattle.rules.specs.Sound.{Sound}
-use Rattle.rules.proofs.Bounds.{edges-few, edgesOf, makespan-few, score-within}
+use Rattle.rules.specs.Demands.{Calm, Looped, Standing}
+use Rattle.rules.proofs.Bounds.{edges-few, makespan-few, score-within}
 use Rattle.rules.proofs.History.{Soundly, run-sound}
 use Rattle.rules.proofs.Plans.{cyclic-no-lineup, shown-cycle, shown-line-up, starts-greatest}
 use Rattle.rules.proofs.Puts.{live-held}
 use Rattle.rules.proofs.Ranges.{greatest-at, greatest-ub}
-
--- "then a cycle is shown, the cycle penalty is the job count and the makespan 0"
-pub record Looped (p : Plan) : Type 0 where
-  pub list : List ℕ
-  pub shown : shownCycle p ≡ some list
-  pub lowest : LowestCycle (p .base .jobs) (live p) list
-  pub penalty : cyclePenalty p ≡ p .base .jobs
-  pub span : makespan p ≡ 0
-
--- "Otherwise a line-up is shown, the penalty is 0, and every start and the makespan are the longest-path values."
-pub record Calm (p : Plan) : Type 0 where
-  pub list : List ℕ
-  pub shown : shownLineUp p ≡ some list
-  pub lowest : LowestLineUp (p .base .jobs) (live p) list
-  pub penalty : cyclePenalty p ≡ 0
-  pub start : (v : ℕ) → v < p .base .jobs → GreatestSum (p .base .jobs) (live p) (floorOf (p .base)) (duration (p .base)) v (starts p v)
-  pub within : (v : ℕ) → v < p .base .jobs → finish p v ≤ makespan p
-  pub reached : (makespan p ≡ 0) ⊎ ((v : ℕ) × (v < p .base .jobs) × (makespan p ≡ finish p v))
-
-pub record Standing (p : Plan) : Type 0 where
-  -- "An edge is live while its count is above 0."
-  pub lists : (u v : ℕ) → live p u v ≡ isHeld p (u, v)
-  -- "the plan is called cyclic exactly if no line-up of all jobs has every edge leading forward"
-  pub verdict : (isCyclic p ≡ true) ↔ ((l : List ℕ) → LineUp (p .base .jobs) (live p) l → ⊥)
-  pub looped : isCyclic p ≡ true → Looped p
-  pub calm : isCyclic p ≡ false → Calm p
-  -- "Edges always fit: 3,072 + 1,023 = 4,095 distinct at most."
-  pub edges : edgesOf (p .desk .heads) ≤ mostFixed + (mostEntries - 1)
-  -- "Valid entries in force over all owners: at most 1,024."
-  pub entries : inForce (p .desk .routes) ≤ mostEntries
-  -- "A duration sum is at most 2^49, so nothing saturates."
-  pub spans : makespan p ≤ mostJobs * longest
-  pub parts : Within (score p)
 
 looped-of : (p : Plan) → isCyclic p ≡ true → Looped p
 unfolding cyclePenalty makespan

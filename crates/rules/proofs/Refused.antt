@@ -12,6 +12,7 @@ use Rattle.rules.specs.declared.Refusal.{Refusal}
 use Rattle.rules.specs.declared.Refusal.the-variants.{ShortStore, BadStore}
 use Rattle.rules.specs.Calls.{Ask, Call, Turn, accepted, changeOf, checksOf, refusal, refused, reply, step, to-blocks, to-load}
 use Rattle.rules.specs.Calls.{to-move, to-put, to-reset, to-retract, to-score, to-starts, to-verdict}
+use Rattle.rules.specs.Given.{Given, allChecks, by-later, by-this, isPart, refusalOrder, testOf}
 use Rattle.rules.specs.Lists.{anyOf, memb}
 use Rattle.rules.specs.Refusals.{Check, firstOf, numberOf}
 use Rattle.rules.specs.Routes.{State}
@@ -39,11 +40,6 @@ accepted-step s c e = rw e
 
 -- ── which refusal is given ──
 
--- r's test holds, and no test before it
-pub data Given (r : Refusal) : List Check → Type 0 where
-  by-this : {b : Bool} {l : List Check} → b ≡ true → Given r ((r, b) ∷ l)
-  by-later : {q : Refusal} {b : Bool} {l : List Check} → b ≡ false → Given r l → Given r ((q, b) ∷ l)
-
 first-given : (l : List Check) (r : Refusal) → (firstOf l ≡ some r) ↔ Given r l
 first-given l r = (to l, from)
   where
@@ -55,9 +51,6 @@ first-given l r = (to l, from)
     from : {l : List Check} → Given r l → firstOf l ≡ some r
     from (by-this e) = rw e
     from (by-later e g) = rw e (from g)
-
-abbrev testOf : Check → Bool
-testOf k = k .1
 
 first-none : (l : List Check) → (firstOf l ≡ none) ↔ (anyOf testOf l ≡ false)
 first-none l = (to l, from l)
@@ -72,10 +65,6 @@ first-none l = (to l, from l)
     from ((q, true) ∷ l) e = clash refl e
     from ((q, false) ∷ l) e = from l e
 
--- all checks of a call, 9 first
-abbrev pub allChecks : State → Call → List Check
-allChecks s c = (ShortStore, isShort (c .lent)) ∷ checksOf s (c .asks)
-
 -- "given exactly if"
 pub refusal-given : (s : State) (c : Call) (r : Refusal) → (refusal s c ≡ some r) ↔ Given r (allChecks s c)
 unfolding refusal
@@ -87,18 +76,8 @@ refusal-none s c = first-none (allChecks s c)
 
 -- ── their order ──
 
--- "Order: 9, 1 (not for load and reset), 2, 3, 4, 5, 6, 7, 11, 8, 10."
-abbrev pub refusalOrder : List ℕ
-refusalOrder = 9 ∷ 1 ∷ 2 ∷ 3 ∷ 4 ∷ 5 ∷ 6 ∷ 7 ∷ 11 ∷ 8 ∷ 10 ∷ []
-
 abbrev number : Check → ℕ
 number k = numberOf (k .0)
-
--- the first list is left of the second when some of it is struck out
-abbrev pub isPart : List ℕ → List ℕ → Bool
-isPart [] m = true
-isPart (k ∷ l) [] = false
-isPart (k ∷ l) (j ∷ m) = cond (eqb k j) (isPart l m) (isPart (k ∷ l) m)
 
 pub in-order : (s : State) (c : Call) → isPart (map number (allChecks s c)) refusalOrder ≡ true
 in-order s c = go s (c .asks)

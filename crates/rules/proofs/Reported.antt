@@ -16,7 +16,8 @@ use Rattle.rules.proofs.Cycles.{calm}
 use Rattle.rules.proofs.Plans.{ranks-of, starts-only, starts-solve}
 use Rattle.rules.proofs.Puts.{live-inside, put-sound, seeds-all, seeds-low, seeds-once}
 use Rattle.rules.proofs.Stages.{never}
-use Rattle.rules.proofs.Walks.{Mended, refreshes}
+use Rattle.rules.specs.Solved.{Mended}
+use Rattle.rules.proofs.Walks.{refreshes}
 
 module _ (p : Plan) (o : ℕ) (l : List ℕ) (S : Sound p) (h : o < p .base .owners) (few : length l ≤ mostEntries)
     (room : inForce (putPlan p o l .desk .routes) ≤ mostEntries) where

@@ -14,7 +14,7 @@ use lib.ListN.{length, getD, drop, length-drop}
 use lib.Seq.{getD-drop, drop-drop}
 use borrow.Author.Tests.{ltb-true, ltb-false, lt-ltb, le-ltb}
 use Rattle.rules.specs.declared.Block.{Block}
-use Rattle.rules.specs.Blocks.{arc, blocks, blocksOf, blocksOver, critical, ends, noBlock, scan}
+use Rattle.rules.specs.Blocks.{IsBlock, PlanBlock, Run, arc, arcAt, blocks, blocksOf, blocksOver, critical, ends, noBlock, planBlock, scan}
 use Rattle.rules.specs.Graphs.{Graph}
 use Rattle.rules.specs.Lists.{first}
 use Rattle.rules.specs.Routes.{Plan, jobsOf, live, routeOf}
@@ -24,25 +24,12 @@ use Rattle.rules.proofs.Ranges.{Test, and-true, below, clash, fail, lt-
 -- ── runs in a list ──
 
 module _ (arcs : Graph) (l : List ℕ) where
-  -- an arc leads from the job at place i to the one at the next place
-  abbrev pub arcAt : ℕ → Bool
-  arcAt i = ltb (suc i) (length l) && arcs (getD l i 0) (getD l (suc i) 0)
-
-  -- the places first to last are "a longest run": arcs join them all, and none joins them to the place before or behind.
-  -- A place on no arc is a run of no arcs.
-  pub record Run (first last : ℕ) : Type 0 where
-    pub rising : first ≤ last
-    pub within : last < length l
-    pub whole : (i : ℕ) → first ≤ i → i < last → arcAt i ≡ true
-    pub begins : (i : ℕ) → suc i ≡ first → arcAt i ≡ false
-    pub ceases : arcAt last ≡ false
-
   -- two longest runs that share a place are one
-  run-last : {a b c d i : ℕ} → Run a b → Run c d → a ≤ i → i ≤ b → c ≤ i → i ≤ d → b ≤ d
+  run-last : {a b c d i : ℕ} → Run arcs l a b → Run arcs l c d → a ≤ i → i ≤ b → c ≤ i → i ≤ d → b ≤ d
   run-last {a} {b} {c} {d} {i} R S h j k m = ⊎-elim
       (λ (x : d < b). clash (R .whole d (omega arith) x) (S .ceases)) (λ (x : b ≤ d). x) (lt-or-le d b)
 
-  run-first : {a b c d i : ℕ} → Run a b → Run c d → a ≤ i → i ≤ b → c ≤ i → i ≤ d → a ≤ c
+  run-first : {a b c d i : ℕ} → Run arcs l a b → Run arcs l c d → a ≤ i → i ≤ b → c ≤ i → i ≤ d → a ≤ c
   run-first {a} {b} {c} {d} {i} R S h j k m = look a refl
     where
       look : (x : ℕ) → a ≡ x → a ≤ c
@@ -50,7 +37,7 @@ module _ (arcs : Graph) (l : List ℕ) where
       look (suc x) q = ⊎-elim
           (λ (y : c < a). clash (S .whole x (omega arith) (omega arith)) (R .begins x (sym q))) (λ (y : a ≤ c). y) (lt-or-le c a)
 
-  pub run-same : {a b c d : ℕ} (i : ℕ) → Run a b → Run c d → a ≤ i → i ≤ b → c ≤ i → i ≤ d → (a ≡ c) × (b ≡ d)
+  pub run-same : {a b c d : ℕ} (i : ℕ) → Run arcs l a b → Run arcs l c d → a ≤ i → i ≤ b → c ≤ i → i ≤ d → (a ≡ c) × (b ≡ d)
   run-same i R S h j k m =
       let p = run-first R S h j k m in
       let q = run-first S R k m h j in
@@ -91,11 +78,6 @@ covered-later : {bs : List Block} {x : ℕ} (b : Block) → Covered bs x → Cov
 covered-later b C = record { number = suc (C .number); in-list = let a = C .in-list in omega arith; from = C .from; to = C .to }
 
 module _ (crit : ℕ → Bool) (arcs : Graph) (l : List ℕ) where
-  -- "a longest run of critical arcs is one block; a place on no run whose job is critical is a block alone"
-  pub record IsBlock (first last : ℕ) : Type 0 where
-    pub run : Run arcs l first last
-    pub alone : first ≡ last → crit (getD l first 0) ≡ true
-
   -- a place on no run whose job is not critical: in no block
   pub record Bare (i : ℕ) : Type 0 where
     pub run : Run arcs l i i
@@ -108,7 +90,7 @@ module _ (crit : ℕ → Bool) (arcs : Graph) (l : List ℕ) where
     -- the blocks of the places from i on
     pub data Tiled : ℕ → List Block → Type 0 where
       tiled-end : {i : ℕ} → length l ≡ i → Tiled i []
-      tiled-block : {i j : ℕ} {bs : List Block} → IsBlock i j → Tiled (suc j) bs → Tiled i (blockOf i j ∷ bs)
+      tiled-block : {i j : ℕ} {bs : List Block} → IsBlock crit arcs l i j → Tiled (suc j) bs → Tiled i (blockOf i j ∷ bs)
       tiled-bare : {i : ℕ} {bs : List Block} → Bare i → Tiled (suc i) bs → Tiled i bs
 
     -- the run from `from` has come as far as `now`
@@ -170,7 +152,7 @@ module _ (crit : ℕ → Bool) (arcs : Graph) (l : List ℕ) where
           begins = λ i q. let k : ⊥ = omega arith in absurd k;
         })
 
-    apart : {i j : ℕ} → IsBlock i j → Bare i → ⊥
+    apart : {i j : ℕ} → IsBlock crit arcs l i j → Bare i → ⊥
     apart {i} {j} B C =
         let (p, q) = run-same arcs l i (B .run) (C .run) (omega arith) (B .run .rising) (omega arith) (omega arith) in
         clash (B .alone (sym q)) (C .idle)
@@ -197,7 +179,7 @@ module _ (crit : ℕ → Bool) (arcs : Graph) (l : List ℕ) where
 
     record Good (i : ℕ) (b : Block) : Type 0 where
       behind : i ≤ b .first
-      is : IsBlock (b .first) (b .last)
+      is : IsBlock crit arcs l (b .first) (b .last)
       names : b ≡ blockOf (b .first) (b .last)
 
     good-later : {i j : ℕ} {b : Block} → i ≤ j → Good j b → Good i b
@@ -240,7 +222,7 @@ module _ (crit : ℕ → Bool) (arcs : Graph) (l : List ℕ) where
 
     -- every answered block is a longest run, or a critical place on no run
     pub scan-sound : (k : ℕ) → k < length answered
-        → IsBlock (nth k .first) (nth k .last) × (nth k ≡ blockOf (nth k .first) (nth k .last))
+        → IsBlock crit arcs l (nth k .first) (nth k .last) × (nth k ≡ blockOf (nth k .first) (nth k .last))
     scan-sound k h = let G = tiled-sound scan-tiled k h in (G .is, G .names)
 
     -- they come in rising order
@@ -277,7 +259,7 @@ module _ (crit : ℕ → Bool) (arcs : Graph) (l : List ℕ) where
         clash (D .alone (p ∙ sym q)) (rw p (B .idle))
 
     -- every block by the sentence is answered
-    pub scan-complete : {i j : ℕ} → IsBlock i j → (k : ℕ) × (k < length answered) × (nth k ≡ blockOf i j)
+    pub scan-complete : {i j : ℕ} → IsBlock crit arcs l i j → (k : ℕ) × (k < length answered) × (nth k ≡ blockOf i j)
     scan-complete {i} {j} B =
         let a = B .run .rising in
         let b = B .run .within in
@@ -316,7 +298,7 @@ module _ (crit : ℕ → Bool) (arcs : Graph) (l : List ℕ) where
 
   -- where an arc asks that both its ends are critical, every place of a block is
   pub block-critical : ((u v : ℕ) → arcs u v ≡ true → (crit u ≡ true) × (crit v ≡ true))
-      → {i j : ℕ} → IsBlock i j → (x : ℕ) → i ≤ x → x ≤ j → crit (getD l x 0) ≡ true
+      → {i j : ℕ} → IsBlock crit arcs l i j → (x : ℕ) → i ≤ x → x ≤ j → crit (getD l x 0) ≡ true
   block-critical f {i} {j} B x h k = look (lt-or-le x j) (lt-or-le i x)
     where
       look : (x < j) ⊎ (j ≤ x) → (i < x) ⊎ (x ≤ i) → crit (getD l x 0) ≡ true
@@ -341,14 +323,6 @@ arc-critical p u v e =
     let (a, b) = and-true {a = live p u v} e in
     let (c, d) = and-true {a = critical p u} b in
     (c, and-true {a = critical p v} d .0)
-
--- "a longest run of critical arcs is one block; a place on no run whose job is critical is a block alone", of owner o's stored entries
-abbrev pub PlanBlock : Plan → ℕ → ℕ → ℕ → Type 0
-PlanBlock p o first last = IsBlock (critical p) (arc p) (jobsOf (routeOf p o)) first last
-
--- "A block holds owner, first, last (inclusive) and route length."
-abbrev pub planBlock : Plan → ℕ → ℕ → ℕ → Block
-planBlock p o first last = record { owner = o; first = first; last = last; length = length (jobsOf (routeOf p o)) }
 
 module _ (p : Plan) (o : ℕ) where
   pub blocks-sound : (k : ℕ) → k < length (blocksOf p o)

@@ -16,7 +16,7 @@ use Rattle.rules.specs.Lists.{Once, count, less, memb, tick}
 use Rattle.rules.specs.Reports.{Outcome, bump, push, tri, upd, walk}
 use Rattle.rules.specs.Routes.{edge}
 use Rattle.rules.specs.Scores.{best}
-use Rattle.rules.specs.Solved.{Ranks, Solves}
+use Rattle.rules.specs.Solved.{Mended, Ranks, Solves}
 use Rattle.rules.proofs.Members.{memb-append, once-count, once-snoc, or-false, or-true}
 use Rattle.rules.proofs.Ranges.{Test, clash, count-le, count-less, fail, less-other, lt-or-le, pass, same, test}
 use Rattle.rules.proofs.Starts.{best-edges, best-same}
@@ -110,12 +110,6 @@ upd-same s v x = rw (eq-eqb v v refl)
 
 upd-other : (s : ℕ → ℕ) (v x w : ℕ) → (w ≡ v → ⊥) → upd s v x w ≡ s w
 upd-other s v x w k = rw (ne-eqb w v k)
-
--- the walk has come to its end, with at most b visits, and has mended the starts
-pub record Mended (n : ℕ) (out : ℕ → List ℕ) (f d : ℕ → ℕ) (b : ℕ) (o : Outcome) : Type 0 where
-  pub ends : o .left ≡ []
-  pub few : o .visits ≤ b
-  pub solves : Solves n (edge out) f d (o .starts)
 
 -- the walk, on a graph that r lines up, with z the starts to come to
 module _ (n : ℕ) (out : ℕ → List ℕ) (f d : ℕ → ℕ) (r z : ℕ → ℕ) (ranks : Ranks n (edge out) r) (zs : Solves n (edge out) f d z)

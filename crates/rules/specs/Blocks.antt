@@ -1,9 +1,10 @@
 -- "Critical blocks". "The blocks are written as records into a lent list": a record is the type `Block`.
-use Prim.Native.Nat.{ℕ, zero, suc, _+_, _-_}
-use mathlib.Core.Bool.{Bool, cond, _&&_, _||_}
+use Prim.Native.Nat.{ℕ, zero, suc, _+_, _-_, _≤_, _<_}
+use mathlib.Core.Path.{_≡_}
+use mathlib.Core.Bool.{Bool, true, false, cond, _&&_, _||_}
 use mathlib.Core.List.{List, [], _∷_, _++_}
 use lib.Dec.{eqb, ltb}
-use lib.ListN.{length}
+use lib.ListN.{length, getD}
 use Rattle.rules.specs.declared.Block.{Block}
 use Rattle.rules.specs.Lists.{least}
 use Rattle.rules.specs.Graphs.{Graph}
@@ -58,3 +59,33 @@ blocksOver p (o ∷ os) = cond (ltb o (p .base .owners)) (blocksOf p o ++ blocks
 -- "Cyclic: none."
 unfoldable pub blocks : Plan → List ℕ → List Block
 blocks p os = cond (isCyclic p) [] (blocksOver p os)
+
+-- ── what a block is, by its sentence: the answered blocks are just these, each once, rising (proofs/Runs: `blocks-sound`, `blocks-complete`, `blocks-rising`) ──
+
+module _ (arcs : Graph) (l : List ℕ) where
+  -- an arc leads from the job at place i to the one at the next place
+  abbrev pub arcAt : ℕ → Bool
+  arcAt i = ltb (suc i) (length l) && arcs (getD l i 0) (getD l (suc i) 0)
+
+  -- the places first to last are "a longest run": arcs join them all, and none joins them to the place before or behind.
+  -- A place on no arc is a run of no arcs.
+  pub record Run (first last : ℕ) : Type 0 where
+    pub rising : first ≤ last
+    pub within : last < length l
+    pub whole : (i : ℕ) → first ≤ i → i < last → arcAt i ≡ true
+    pub begins : (i : ℕ) → suc i ≡ first → arcAt i ≡ false
+    pub ceases : arcAt last ≡ false
+
+module _ (crit : ℕ → Bool) (arcs : Graph) (l : List ℕ) where
+  -- "a longest run of critical arcs is one block; a place on no run whose job is critical is a block alone"
+  pub record IsBlock (first last : ℕ) : Type 0 where
+    pub run : Run arcs l first last
+    pub alone : first ≡ last → crit (getD l first 0) ≡ true
+
+-- "a longest run of critical arcs is one block; a place on no run whose job is critical is a block alone", of owner o's stored entries
+abbrev pub PlanBlock : Plan → ℕ → ℕ → ℕ → Type 0
+PlanBlock p o first last = IsBlock (critical p) (arc p) (jobsOf (routeOf p o)) first last
+
+-- "A block holds owner, first, last (inclusive) and route length."
+abbrev pub planBlock : Plan → ℕ → ℕ → ℕ → Block
+planBlock p o first last = record { owner = o; first = first; last = last; length = length (jobsOf (routeOf p o)) }

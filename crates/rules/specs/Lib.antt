@@ -12,6 +12,8 @@ pub mod Reports
 pub mod Blocks
 pub mod Moves
 pub mod Calls
+pub mod Given
+pub mod Demands
 pub mod Solved
 pub mod Sound
 pub mod Steps

@@ -1,12 +1,13 @@
 -- "Moves": the four route moves and both move checks. "A move answers the new route and both verdicts; the store stays." "The probe looks
 -- through a view of the live lists and copies none." (That is the code's; here `live` is the lists.)
 use Prim.Native.Nat.{ℕ, suc, _+_, _-_}
-use mathlib.Core.Bool.{Bool, not, cond, _&&_, _||_}
+use mathlib.Core.Path.{_≡_}
+use mathlib.Core.Bool.{Bool, true, false, not, cond, _&&_, _||_}
 use mathlib.Core.List.{List, [], _∷_, _++_, map}
 use lib.Dec.{eqb, ltb, leb}
 use lib.ListN.{length, getD, take, drop}
 use Rattle.rules.specs.Lists.{isZero, isSome, distinct, allBelow, nobody, Pair, times}
-use Rattle.rules.specs.Graphs.{Graph}
+use Rattle.rules.specs.Graphs.{Cycle, Graph}
 use Rattle.rules.specs.Sizes.{validFixed}
 use Rattle.rules.specs.Routes.{Plan, live, jobsOf, routeOf}
 use Rattle.rules.specs.Shown.{order, reach}
@@ -118,3 +119,24 @@ isMovedCyclic p o m = fullCheck (p .base .jobs) (movedOn p o m)
 
 unfoldable pub isMovedQuick : Plan → ℕ → Move → Bool
 isMovedQuick p o m = quickCheck (p .base .jobs) (movedOn p o m) (movedStays p o m)
+
+-- ── when the quick check says yes, by its sentence (proofs/Checks: `quick-check`; the full one: `full-check`) ──
+
+-- of the cycle that l lists from v: from each job to the next, and from the last back to v
+abbrev pub stepsOf : ℕ → List ℕ → List Pair
+stepsOf v l = neighbours (l ++ v ∷ [])
+
+-- "Added: the reverse."
+abbrev pub movedAdded : Plan → ℕ → Move → Graph
+movedAdded p o m = added (neighbours (jobsOf (routeOf p o))) (neighbours (newRoute p o m)) (live p) (isFixed p)
+
+-- some cycle of the edges that are on uses an added edge that was not already on
+pub record AddedCycle (p : Plan) (o : ℕ) (m : Move) : Type 0 where
+  pub job : ℕ
+  pub list : List ℕ
+  pub is : Cycle (p .base .jobs) (movedOn p o m) job list
+  pub tail : ℕ
+  pub head : ℕ
+  pub step : occurs (stepsOf job list) tail head ≡ true
+  pub joins : movedAdded p o m tail head ≡ true
+  pub was-off : movedStays p o m tail head ≡ false

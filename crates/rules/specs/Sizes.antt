@@ -39,6 +39,22 @@ pub record Lent : Type 0 where
   pub routes : ℕ
   pub times : ℕ
 
+-- how many words each of them has at least: the constants of docs/LIMITS.md
+abbrev pub baseLength : ℕ
+baseLength = 6661
+
+abbrev pub spansLength : ℕ
+spansLength = 512
+
+abbrev pub edgesLength : ℕ
+edgesLength = 13314
+
+abbrev pub routesLength : ℕ
+routesLength = 1794
+
+abbrev pub timesLength : ℕ
+timesLength = 514
+
 -- what load is given; the fixed list is two lists of one length
 pub record Loading : Type 0 where
   pub jobs : ℕ
@@ -105,4 +121,6 @@ badFrom l = anyOf (leb (l .jobs)) (l .from) || falls 0 (l .from)
 
 -- 9: "a store slice is shorter than its constant in docs/LIMITS.md"
 abbrev pub isShort : Lent → Bool
-isShort s = ltb (s .base) 6661 || (ltb (s .spans) 512 || (ltb (s .edges) 13314 || (ltb (s .routes) 1794 || ltb (s .times) 514)))
+isShort s =
+    ltb (s .base) baseLength
+    || (ltb (s .spans) spansLength || (ltb (s .edges) edgesLength || (ltb (s .routes) routesLength || ltb (s .times) timesLength)))

@@ -9,3 +9,4 @@ pub mod Scores
 pub mod Readings
 pub mod Resets
 pub mod Retracting
+pub mod Laying

@@ -12,7 +12,7 @@ use borrow.Author.Tests.{eq-eqb, ne-eqb, le-ltb, ltb-false, not-true}
 use Rattle.rules.specs.declared.Plan.{Plan as Counts}
 use Rattle.rules.specs.declared.Refusal.{Refusal}
 use Rattle.rules.specs.declared.Refusal.the-variants.{NotLoaded, BadStore, ShortStore}
-use Rattle.rules.specs.Sizes.{Base, Lent, isShort, fitsSizes}
+use Rattle.rules.specs.Sizes.{Base, Lent, isShort, fitsSizes, baseLength, edgesLength, mostFixed, mostJobs, routesLength, timesLength}
 use Rattle.rules.specs.Routes.{Plan}
 use Rattle.rules.specs.Scores.{invalidFixed}
 use Rattle.rules.specs.Sound.{Loaded}
@@ -56,39 +56,39 @@ module _ (l : List ℕ) where
 -- ── of slices that are long enough ──
 
 pub record Long (s : Lent) : Type 0 where
-  pub base : 6661 ≤ s .base
+  pub base : baseLength ≤ s .base
   pub spans : 512 ≤ s .spans
-  pub edges : 13314 ≤ s .edges
-  pub routes : 1794 ≤ s .routes
-  pub times : 514 ≤ s .times
+  pub edges : edgesLength ≤ s .edges
+  pub routes : routesLength ≤ s .routes
+  pub times : timesLength ≤ s .times
 
 pub long : (s : Lent) → isShort s ≡ false → Long s
 long s e =
-    let (a, x) = or-false {a = ltb (s .base) 6661} e in
+    let (a, x) = or-false {a = ltb (s .base) baseLength} e in
     let (b, y) = or-false {a = ltb (s .spans) 512} x in
-    let (c, z) = or-false {a = ltb (s .edges) 13314} y in
-    let (d, f) = or-false {a = ltb (s .routes) 1794} z in
+    let (c, z) = or-false {a = ltb (s .edges) edgesLength} y in
+    let (d, f) = or-false {a = ltb (s .routes) routesLength} z in
     record {
-      base = ltb-false (s .base) 6661 a;
+      base = ltb-false (s .base) baseLength a;
       spans = ltb-false (s .spans) 512 b;
-      edges = ltb-false (s .edges) 13314 c;
-      routes = ltb-false (s .routes) 1794 d;
-      times = ltb-false (s .times) 514 f;
+      edges = ltb-false (s .edges) edgesLength c;
+      routes = ltb-false (s .routes) routesLength d;
+      times = ltb-false (s .times) timesLength f;
     }
 
 -- what is known of a store that opens
 pub record Opened (s : Lent) (l : List ℕ) (plan : Counts) : Type 0 where
   pub long : Long s
   pub is : plan ≡ planAt l
-  pub jobs : plan .jobs ≤ 512
+  pub jobs : plan .jobs ≤ mostJobs
   pub owners : plan .owners ≤ 64
-  pub fixed : plan .fixed ≤ 3072
+  pub fixed : plan .fixed ≤ mostFixed
 
-fits-bounds : (a b c : ℕ) → fitsSizes a b c ≡ true → (a ≤ 512) × (b ≤ 64) × (c ≤ 3072)
+fits-bounds : (a b c : ℕ) → fitsSizes a b c ≡ true → (a ≤ 512) × (b ≤ 64) × (c ≤ mostFixed)
 fits-bounds a b c e =
     let (x, y) = and-true {a = not (ltb 512 a)} e in
     let (z, w) = and-true {a = not (ltb 64 b)} y in
-    (ltb-false 512 a (not-true _ x), ltb-false 64 b (not-true _ z), ltb-false 3072 c (not-true _ w))
+    (ltb-false 512 a (not-true _ x), ltb-false 64 b (not-true _ z), ltb-false mostFixed c (not-true _ w))
 
 headed-opened : (l : List ℕ) (plan : Counts) (m f : Bool) → eqb (getD l 0 0) 0 ≡ false → eqb (getD l 0 0) 1 ≡ m
     → fitsSizes (getD l 1 0) (getD l 2 0) (getD l 3 0) ≡ f
@@ -131,21 +131,21 @@ pub record Headed (l : List ℕ) (b : Base) : Type 0 where
   pub fixed : getD l 3 0 ≡ length (b .fixed)
   pub invalid : getD l 4 0 ≡ invalidFixed b
 
-headed-by : (b : Base) (l m : List ℕ) → take 6661 l ≡ 1 ∷ b .jobs ∷ b .owners ∷ length (b .fixed) ∷ invalidFixed b ∷ m → Headed l b
+headed-by : (b : Base) (l m : List ℕ) → take baseLength l ≡ 1 ∷ b .jobs ∷ b .owners ∷ length (b .fixed) ∷ invalidFixed b ∷ m → Headed l b
 headed-by b l m e = record {
-  mark = sym (getD-take 6661 l 0 0 (omega arith)) ∙ ap (λ (x : List ℕ). getD x 0 0) e;
-  jobs = sym (getD-take 6661 l 1 0 (omega arith)) ∙ ap (λ (x : List ℕ). getD x 1 0) e;
-  owners = sym (getD-take 6661 l 2 0 (omega arith)) ∙ ap (λ (x : List ℕ). getD x 2 0) e;
-  fixed = sym (getD-take 6661 l 3 0 (omega arith)) ∙ ap (λ (x : List ℕ). getD x 3 0) e;
-  invalid = sym (getD-take 6661 l 4 0 (omega arith)) ∙ ap (λ (x : List ℕ). getD x 4 0) e;
+  mark = sym (getD-take baseLength l 0 0 (omega arith)) ∙ ap (λ (x : List ℕ). getD x 0 0) e;
+  jobs = sym (getD-take baseLength l 1 0 (omega arith)) ∙ ap (λ (x : List ℕ). getD x 1 0) e;
+  owners = sym (getD-take baseLength l 2 0 (omega arith)) ∙ ap (λ (x : List ℕ). getD x 2 0) e;
+  fixed = sym (getD-take baseLength l 3 0 (omega arith)) ∙ ap (λ (x : List ℕ). getD x 3 0) e;
+  invalid = sym (getD-take baseLength l 4 0 (omega arith)) ∙ ap (λ (x : List ℕ). getD x 4 0) e;
 }
 
-pub base-headed : (b : Base) (l : List ℕ) → take 6661 l ≡ baseWords b → Headed l b
+pub base-headed : (b : Base) (l : List ℕ) → take baseLength l ≡ baseWords b → Headed l b
 unfolding baseWords
 base-headed b l e = headed-by b l _ e
 
 fits-loaded : (b : Base) → Loaded b → fitsSizes (b .jobs) (b .owners) (length (b .fixed)) ≡ true
-fits-loaded b L = rw (le-ltb 512 (b .jobs) (L .jobs), le-ltb 64 (b .owners) (L .owners), le-ltb 3072 (length (b .fixed)) (L .fixed))
+fits-loaded b L = rw (le-ltb 512 (b .jobs) (L .jobs), le-ltb 64 (b .owners) (L .owners), le-ltb mostFixed (length (b .fixed)) (L .fixed))
 
 counts-headed : (l : List ℕ) (b : Base) → Headed l b → planAt l ≡ countsOf b
 counts-headed l b H = rw (H .jobs, H .owners, H .fixed)

@@ -6,7 +6,7 @@ use mathlib.Core.List.{List, _∷_, _++_, append-assoc}
 use lib.ListN.{length, getD, take, drop, length-append, length-map, List·getD-append, List·getD-eq-default}
 use lib.Seq.{slice, take-take, getD-take, getD-append-add}
 use Rattle.rules.specs.Lists.{table, sumOf}
-use Rattle.rules.specs.Sizes.{mostJobs, mostOwners}
+use Rattle.rules.specs.Sizes.{mostJobs, mostOwners, mostEntries, routesLength}
 use Rattle.rules.specs.Routes.{Plan, Route, emptyRoute, routeOf, violationsOf}
 use Rattle.rules.specs.Scores.{assigned, assignment, assignmentPenalty, invalidEntries, violations}
 use Rattle.rules.specs.Sound.{Sound}
@@ -28,14 +28,14 @@ module _ (m : Model) (w : Wf m) where
   offs-part : length (offs 0 (rows m)) ≡ 65
   offs-part = offs-length 0 (rows m) ∙ ap suc (length-map (m .routes) row ∙ w .owners)
 
-  stops-part : length (pad 1024 (flat (rows m))) ≡ 1024
-  stops-part = pad-length 1024 (flat (rows m)) (w .room)
+  stops-part : length (pad mostEntries (flat (rows m))) ≡ mostEntries
+  stops-part = pad-length mostEntries (flat (rows m)) (w .room)
 
   invalids-part : length (invalids m) ≡ 64
   invalids-part = length-map (m .routes) invalidIn ∙ w .owners
 
   abbrev ahead : List ℕ
-  ahead = offs 0 (rows m) ++ pad 1024 (flat (rows m))
+  ahead = offs 0 (rows m) ++ pad mostEntries (flat (rows m))
 
   abbrev counts : List ℕ
   counts = invalids m ++ m .violated
@@ -45,7 +45,7 @@ module _ (m : Model) (w : Wf m) where
 
   ahead-part : length ahead ≡ 1089
   ahead-part =
-      let x = length-append (offs 0 (rows m)) (pad 1024 (flat (rows m))) in
+      let x = length-append (offs 0 (rows m)) (pad mostEntries (flat (rows m))) in
       let y = offs-part in
       let z = stops-part in
       omega arith
@@ -112,11 +112,11 @@ module _ (p : Plan) (S : Sound p) where
       from-zero : (o : ℕ) → o ≡ 0 + o
       from-zero o = omega arith
 
-module _ (p : Plan) (l e : List ℕ) (D : Desked (take 1794 l) e p) where
+module _ (p : Plan) (l e : List ℕ) (D : Desked (take routesLength l) e p) where
   pub counts-sum : sumWords 1089 1217 l ≡ invalidEntries p + violations p
   unfolding sumWords
   counts-sum =
-      ap (λ (x : List ℕ). total (drop 1089 x)) (sym (take-take 1217 1794 l (omega arith)))
+      ap (λ (x : List ℕ). total (drop 1089 x)) (sym (take-take 1217 routesLength l (omega arith)))
       ∙ ap (λ (x : List ℕ). total (slice 1089 1217 x)) (D .routes .words)
       ∙ ap total (counts-slice (routesOf p) (D .routes .wf))
       ∙ sum-append (λ (x : ℕ). x) (invalids (routesOf p)) (routesOf p .violated)
@@ -125,7 +125,7 @@ module _ (p : Plan) (l e : List ℕ) (D : Desked (take 1794 l) e p) where
   word-assigned : (v : ℕ) → v < 512 → getD l (1217 + v) 0 ≡ assigned (p .desk .routes) v
   unfolding routesOf
   word-assigned v h =
-      sym (getD-take 1794 l (1217 + v) 0 (omega arith))
+      sym (getD-take routesLength l (1217 + v) 0 (omega arith))
       ∙ ap (λ (x : List ℕ). getD x (1217 + v) 0) (D .routes .words)
       ∙ assigned-at (routesOf p) (D .routes .wf) v h
       ∙ table-at mostJobs (assigned (p .desk .routes)) v 0 h

@@ -11,10 +11,10 @@ use Rattle.rules.specs.declared.Plan.{Plan as Counts}
 use Rattle.rules.specs.declared.Refusal.{Refusal}
 use Rattle.rules.specs.declared.Refusal.the-variants.{NotLoaded, ShortStore, BadStore}
 use Rattle.rules.specs.Lists.{memb}
-use Rattle.rules.specs.Sizes.{isShort}
+use Rattle.rules.specs.Sizes.{isShort, baseLength, edgesLength, routesLength, spansLength, timesLength}
 use Rattle.rules.specs.Refusals.{firstOf, numberOf}
 use Rattle.rules.specs.Routes.{Plan, State}
-use Rattle.rules.specs.Calls.{Ask, Reply, refused, checksOf, refusal, accepted, reply}
+use Rattle.rules.specs.Calls.{Ask, Reply, refused, checksOf, refusal, accepted, reply, changeOf}
 use Rattle.rules.proofs.Ranges.{Test, pass, fail, test}
 use Rattle.rules.proofs.Refused.{refused-stays, accepted-step}
 use Rattle.edges.specs.Edges.{encode as edgeWords}
@@ -38,17 +38,17 @@ front-back k l m e = ap (λ (x : List ℕ). x ++ drop k l) (sym e) ∙ take-appe
 pub held-same : (s : Slices) (p : Plan) → Held s p → s ≡ holding p s
 unfolding holding
 held-same s p H = sym (rw (
-  front-back 6661 (s .base) _ (H .base),
+  front-back baseLength (s .base) _ (H .base),
   front-back 512 (s .spans) _ (H .spans),
-  front-back 13314 (s .edges) _ (H .desk .edges .words),
-  front-back 1794 (s .routes) _ (H .desk .routes .words),
-  front-back 514 (s .times) _ (H .times),
+  front-back edgesLength (s .edges) _ (H .desk .edges .words),
+  front-back routesLength (s .routes) _ (H .desk .routes .words),
+  front-back timesLength (s .times) _ (H .times),
 ))
 
 -- what is written, slice by slice
-pub holding-is : (p : Plan) (s s′ : Slices) → s′ .base ≡ baseWords (p .base) ++ drop 6661 (s .base)
-    → s′ .spans ≡ spanWords (p .base) ++ drop 512 (s .spans) → s′ .edges ≡ edgeWords (edgesOf p) ++ drop 13314 (s .edges)
-    → s′ .routes ≡ routeWords (routesOf p) ++ drop 1794 (s .routes) → s′ .times ≡ timeWords p ++ drop 514 (s .times) → s′ ≡ holding p s
+pub holding-is : (p : Plan) (s s′ : Slices) → s′ .base ≡ baseWords (p .base) ++ drop baseLength (s .base)
+    → s′ .spans ≡ spanWords (p .base) ++ drop spansLength (s .spans) → s′ .edges ≡ edgeWords (edgesOf p) ++ drop edgesLength (s .edges)
+    → s′ .routes ≡ routeWords (routesOf p) ++ drop routesLength (s .routes) → s′ .times ≡ timeWords p ++ drop timesLength (s .times) → s′ ≡ holding p s
 unfolding holding
 holding-is p s s′ b u e r t = λ i. record { base = b i; spans = u i; edges = e i; routes = r i; times = t i }
 
@@ -114,6 +114,7 @@ module _ {A : Type 0} (a : Ask) (s : Slices) {h : Header} (opens : h ≡ openOf 
     first = λ k f. let q : r ≡ k = (let x = sym e ∙ ap (λ (h : Header). refusedBy h a) opens ∙ f in cc) in ap refused q;
     later = λ f k q. none-some f (sym (ap (λ (h : Header). refusedBy h a) opens) ∙ e);
     stays = λ k q n. (refl, refl);
+    zero = λ k q. ap changeOf q;
   }
 
   module _ (none-first : refusedBy h a ≡ none) {s′ : Slices} {out out′ : List A} {r : Reply} where
@@ -124,6 +125,7 @@ module _ {A : Type 0} (a : Ask) (s : Slices) {h : Header} (opens : h ≡ openOf 
       first = λ k f. none-some none-first (ap (λ (h : Header). refusedBy h a) opens ∙ f);
       later = λ f. l;
       stays = k;
+      zero = λ k q. ap changeOf q;
     }
 
     pub heeds-done : ((k : Refusal) → r ≡ refused k → ⊥) → Heeds a s s′ out out′ r

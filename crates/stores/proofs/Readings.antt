@@ -13,7 +13,7 @@ use Rattle.rules.specs.declared.Score.{Score}
 use Rattle.rules.specs.declared.Refusal.{Refusal}
 use Rattle.rules.specs.declared.Refusal.the-variants.{ShortAnswer}
 use Rattle.rules.specs.Lists.{table}
-use Rattle.rules.specs.Sizes.{isShort, mostJobs}
+use Rattle.rules.specs.Sizes.{isShort, mostJobs, timesLength}
 use Rattle.rules.specs.Routes.{Plan}
 use Rattle.rules.specs.Scores.{score, matchesOf, reportedStart}
 use Rattle.rules.specs.Calls.{refused, counted, started, to-score, to-starts, accepted}
@@ -64,11 +64,11 @@ module _ (s : Slices) {h : Header} (opens : h ≡ openOf (lentOf s) (s .base)) w
 -- ── starts ──
 
 -- the starts of a plan, as the times hold them
-pub times-starts : (p : Plan) (l : List ℕ) → take 514 l ≡ timeWords p → take 512 (drop 2 l) ≡ table mostJobs (startOf p)
+pub times-starts : (p : Plan) (l : List ℕ) → take timesLength l ≡ timeWords p → take 512 (drop 2 l) ≡ table mostJobs (startOf p)
 unfolding timeWords
-times-starts p l e = part-slice 2 514 l (omega arith) ∙ ap (drop 2) e
+times-starts p l e = part-slice 2 timesLength l (omega arith) ∙ ap (drop 2) e
 
-starts-reported : (p : Plan) (l : List ℕ) → take 514 l ≡ timeWords p → p .base .jobs ≤ mostJobs
+starts-reported : (p : Plan) (l : List ℕ) → take timesLength l ≡ timeWords p → p .base .jobs ≤ mostJobs
     → take (p .base .jobs) (take 512 (drop 2 l)) ≡ table (p .base .jobs) (reportedStart p)
 starts-reported p l e h =
     ap (take (p .base .jobs)) (times-starts p l e)

@@ -8,14 +8,17 @@ use Rattle.rules.specs.declared.Refusal.the-variants.{ShortStore}
 use Rattle.rules.specs.Sizes.{isShort}
 use Rattle.rules.specs.Routes.{State}
 use Rattle.rules.specs.Scores.{noChange}
-use Rattle.rules.specs.Calls.{refused, scored, to-reset, refusal, accepted}
+use Rattle.rules.specs.Calls.{refused, scored, to-reset, refusal, accepted, changeOf}
 use Rattle.rules.proofs.Refused.{accepted-step}
 use Rattle.stores.specs.Promise.{Slices, slices, lentOf, callOf, unmarked, after, AnyPromise}
 use Rattle.stores.proofs.Promises.{decided-refused, refusal-short, refusal-long}
 
 module _ (s : Slices) where
   pub reset-short : isShort (lentOf s) ≡ true → AnyPromise to-reset s s (refused ShortStore)
-  reset-short e = record { decides = λ t. decided-refused t to-reset s [] ShortStore (refusal-short t to-reset s e) }
+  reset-short e = record {
+    decides = λ t. decided-refused t to-reset s [] ShortStore (refusal-short t to-reset s e);
+    zero = λ k q. ap changeOf q;
+  }
 
   module _ (e : isShort (lentOf s) ≡ false) where
     fine : (t : State) → refusal t (callOf to-reset s) ≡ none
@@ -36,4 +39,5 @@ module _ (s : Slices) where
         leaves = leaves t;
         answers = refl;
       };
+      zero = λ k q. ap changeOf q;
     }

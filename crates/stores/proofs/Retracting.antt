@@ -12,7 +12,7 @@ use Rattle.rules.specs.declared.Plan.{Plan as Counts}
 use Rattle.rules.specs.declared.Refusal.{Refusal}
 use Rattle.rules.specs.declared.Refusal.the-variants.{NoSuchOwner, BadStore}
 use Rattle.rules.specs.Lists.{memb}
-use Rattle.rules.specs.Sizes.{isShort}
+use Rattle.rules.specs.Sizes.{isShort, baseLength, edgesLength, routesLength, timesLength}
 use Rattle.rules.specs.Routes.{Plan, live, wait}
 use Rattle.rules.specs.Scores.{noChange}
 use Rattle.rules.specs.Calls.{refused, scored, to-retract, accepted}
@@ -69,23 +69,23 @@ module _ (o : ℕ) (s : Slices) {h : Header} (opens : h ≡ openOf (lentOf s) (s
         (refusal-long (some p) (to-retract o) s f ∙ rw (le-leb (p .base .owners) o (rw q at k))))
         (heeds-first (to-retract o) s opens [] (rw (is, le-leb (plan .owners) o k)))
 
-    module _ (e : t ≡ true) {r′ : List ℕ} {d : Done} (R : Retracted (take 1794 (s .routes)) o r′ d) where
+    module _ (e : t ≡ true) {r′ : List ℕ} {d : Done} (R : Retracted (take routesLength (s .routes)) o r′ d) where
       k : o < plan .owners
       k = ltb-true o (plan .owners) (sym has ∙ e)
 
       abbrev left : Slices
-      left = slices (s .base) (s .spans) (s .edges) (r′ ++ drop 1794 (s .routes)) (s .times)
+      left = slices (s .base) (s .spans) (s .edges) (r′ ++ drop routesLength (s .routes)) (s .times)
 
-      waits : (p : Plan) → Held s p → plan ≡ countsOf (p .base) → (d ≡ Fine) × Desked r′ (take 13314 (s .edges)) (wait o p)
+      waits : (p : Plan) → Held s p → plan ≡ countsOf (p .base) → (d ≡ Fine) × Desked r′ (take edgesLength (s .edges)) (wait o p)
       waits p H q = retracts R (H .desk) (rw q at k)
 
-      written : (p : Plan) → Held s p → Desked r′ (take 13314 (s .edges)) (wait o p) → left ≡ holding (wait o p) s
+      written : (p : Plan) → Held s p → Desked r′ (take edgesLength (s .edges)) (wait o p) → left ≡ holding (wait o p) s
       written p H D = holding-is (wait o p) s left
-          (sym (front-back 6661 (s .base) _ (H .base ∙ ap baseWords (sym (wait-base o p)))))
+          (sym (front-back baseLength (s .base) _ (H .base ∙ ap baseWords (sym (wait-base o p)))))
           (sym (front-back 512 (s .spans) _ (H .spans ∙ ap spanWords (sym (wait-base o p)))))
-          (sym (front-back 13314 (s .edges) _ (D .edges .words)))
-          (ap (λ (l : List ℕ). l ++ drop 1794 (s .routes)) (D .routes .words))
-          (sym (front-back 514 (s .times) _ (H .times ∙ sym (wait-times o p))))
+          (sym (front-back edgesLength (s .edges) _ (D .edges .words)))
+          (ap (λ (l : List ℕ). l ++ drop routesLength (s .routes)) (D .routes .words))
+          (sym (front-back timesLength (s .times) _ (H .times ∙ sym (wait-times o p))))
 
       some-waits : isShort (lentOf s) ≡ false → (p : Plan) → Held s p → plan ≡ countsOf (p .base)
           → Decided (some p) (to-retract o) s left [] [] (scored noChange)

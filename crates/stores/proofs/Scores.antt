@@ -18,6 +18,7 @@ use Rattle.rules.specs.Scores.{scoreOf, limit, score, hardPenalty, invalidFixed
 use Rattle.rules.specs.Scores.{cyclePenalty, isCyclic, makespan}
 use Rattle.rules.proofs.Bounds.{makespan-few}
 use Rattle.rules.proofs.Scoring.{within-score}
+use Rattle.rules.specs.Sizes.{mostJobs, timesLength}
 use Rattle.stores.specs.declared.score.Scored.{Scored}
 use Rattle.stores.specs.declared.score.Scored.the-variants.{Is, Refused}
 use Rattle.stores.specs.Sums.{Summed, Assigned, Penal, ScoredBy, penaltyAt, scoredAt, assignmentsAt}
@@ -29,7 +30,7 @@ use Rattle.stores.proofs.Penalties.{counts-sum, assigned-sum}
 -- ── of any words ──
 
 pub penal-of : {base routes : List ℕ} {n m a b : ℕ} → getD base 4 0 < 2 ^ 32 → Summed routes 1089 1217 a → Assigned routes m b
-    → m ≡ n → n ≤ 512 → Penal base routes n (getD base 4 0 + a + b)
+    → m ≡ n → n ≤ mostJobs → Penal base routes n (getD base 4 0 + a + b)
 unfolding penaltyAt
 penal-of {base} {routes} {n} h s j q k = record {
   is = let x = s .is in let y = j .is ∙ ap (assignmentsAt routes) q in omega arith;
@@ -45,7 +46,7 @@ module _ {base routes times : List ℕ} {n : ℕ} where
   unfolding scoredAt
   scored-wide h k = record { is = rw (le-ltb 1 _ h, lt-ltb limit _ k); within = tt }
 
-  module _ {x : ℕ} (p : Penal base routes n x) (few : n ≤ 512) (odd : getD times 0 0 ≤ 1) (wide : getD times 1 0 ≤ limit) where
+  module _ {x : ℕ} (p : Penal base routes n x) (few : n ≤ mostJobs) (odd : getD times 0 0 ≤ 1) (wide : getD times 1 0 ≤ limit) where
     pub scored-cyclic : {s : Score} → getD times 0 0 ≡ 1 → s ≡ scoreOf (x + n) (getD times 1 0) → ScoredBy base routes times n (Is s)
     unfolding scoredAt
     scored-cyclic e q = record {
@@ -74,14 +75,14 @@ scored-twelve base routes times n {a} {k} q e = go (ltb 1 (getD times 0 0)) (ltb
 -- ── of a store that stands for a plan ──
 
 -- the first two words of the times
-timed-by : (p : Plan) (l m : List ℕ) → take 514 l ≡ tick (isCyclic p) 0 ∷ makespan p ∷ m
+timed-by : (p : Plan) (l m : List ℕ) → take timesLength l ≡ tick (isCyclic p) 0 ∷ makespan p ∷ m
     → (getD l 0 0 ≡ tick (isCyclic p) 0) × (getD l 1 0 ≡ makespan p)
 timed-by p l m e = (
-  sym (getD-take 514 l 0 0 (omega arith)) ∙ ap (λ (x : List ℕ). getD x 0 0) e,
-  sym (getD-take 514 l 1 0 (omega arith)) ∙ ap (λ (x : List ℕ). getD x 1 0) e,
+  sym (getD-take timesLength l 0 0 (omega arith)) ∙ ap (λ (x : List ℕ). getD x 0 0) e,
+  sym (getD-take timesLength l 1 0 (omega arith)) ∙ ap (λ (x : List ℕ). getD x 1 0) e,
 )
 
-pub timed : (p : Plan) (l : List ℕ) → take 514 l ≡ timeWords p → (getD l 0 0 ≡ tick (isCyclic p) 0) × (getD l 1 0 ≡ makespan p)
+pub timed : (p : Plan) (l : List ℕ) → take timesLength l ≡ timeWords p → (getD l 0 0 ≡ tick (isCyclic p) 0) × (getD l 1 0 ≡ makespan p)
 unfolding timeWords
 timed p l e = timed-by p l _ e
 

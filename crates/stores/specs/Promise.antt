@@ -12,10 +12,11 @@ use Rattle.rules.specs.declared.Plan.{Plan as Counts}
 use Rattle.rules.specs.declared.Refusal.{Refusal}
 use Rattle.rules.specs.declared.Refusal.the-variants.{NoSuchOwner, BadStore}
 use Rattle.rules.specs.Lists.{memb}
-use Rattle.rules.specs.Sizes.{Lent, isShort}
+use Rattle.rules.specs.Sizes.{Lent, isShort, baseLength, edgesLength, routesLength, spansLength, timesLength}
 use Rattle.rules.specs.Routes.{Plan, State}
 use Rattle.rules.specs.Calls.{Ask, Call, Reply, refused, scored, changed, counted, lined-up, cycled, started, blocked, rerouted, refusal}
-use Rattle.rules.specs.Calls.{to-load, to-reset, to-retract, to-put, to-score, to-verdict, to-starts, to-blocks, to-move, reply, step}
+use Rattle.rules.specs.Calls.{to-load, to-reset, to-retract, to-put, to-score, to-verdict, to-starts, to-blocks, to-move, changeOf, reply, step}
+use Rattle.rules.specs.Scores.{noChange}
 use Rattle.rules.specs.Refusals.{Check, firstOf, tooMany, tooFew, numberOf}
 use Rattle.edges.specs.Edges.{encode as edgeWords}
 use Rattle.routes.specs.Store.{encode as routeWords}
@@ -51,10 +52,10 @@ callOf a s = record { lent = lentOf s; asks = a }
 
 -- a slice may be longer than its constant: its first words are those of the plan
 pub record Held (s : Slices) (p : Plan) : Type 0 where
-  pub base : take 6661 (s .base) ≡ baseWords (p .base)
-  pub spans : take 512 (s .spans) ≡ spanWords (p .base)
-  pub desk : Desked (take 1794 (s .routes)) (take 13314 (s .edges)) p
-  pub times : take 514 (s .times) ≡ timeWords p
+  pub base : take baseLength (s .base) ≡ baseWords (p .base)
+  pub spans : take spansLength (s .spans) ≡ spanWords (p .base)
+  pub desk : Desked (take routesLength (s .routes)) (take edgesLength (s .edges)) p
+  pub times : take timesLength (s .times) ≡ timeWords p
 
 -- the store stands for a state: not loaded (its mark is 0, and the other words are free), or a plan
 abbrev pub Stands : Slices → State → Type 0
@@ -68,11 +69,11 @@ StandsFor s t = isShort (lentOf s) ≡ false → Stands s t
 -- the slices once a plan is written; what lies beyond the constants stays
 unfoldable pub holding : Plan → Slices → Slices
 holding p s = record {
-  base = baseWords (p .base) ++ drop 6661 (s .base);
-  spans = spanWords (p .base) ++ drop 512 (s .spans);
-  edges = edgeWords (edgesOf p) ++ drop 13314 (s .edges);
-  routes = routeWords (routesOf p) ++ drop 1794 (s .routes);
-  times = timeWords p ++ drop 514 (s .times);
+  base = baseWords (p .base) ++ drop baseLength (s .base);
+  spans = spanWords (p .base) ++ drop spansLength (s .spans);
+  edges = edgeWords (edgesOf p) ++ drop edgesLength (s .edges);
+  routes = routeWords (routesOf p) ++ drop routesLength (s .routes);
+  times = timeWords p ++ drop timesLength (s .times);
 }
 
 -- a store that is not loaded any more: its mark is 0
@@ -146,6 +147,8 @@ pub record Heeds {A : Type 0} (a : Ask) (s s′ : Slices) (out out′ : List A) 
   pub first : (k : Refusal) → refusedBy (openOf (lentOf s) (s .base)) a ≡ some k → r ≡ refused k
   pub later : refusedBy (openOf (lentOf s) (s .base)) a ≡ none → (k : Refusal) → r ≡ refused k → memb (numberOf k) (12 ∷ laterOf a) ≡ true
   pub stays : (k : Refusal) → r ≡ refused k → (k ≡ BadStore → ⊥) → (s′ ≡ s) × (out′ ≡ out)
+  -- "returns a zero score change", by 12 too
+  pub zero : (k : Refusal) → r ≡ refused k → changeOf r ≡ noChange
 
 -- of every state that the store stands for, and of any contents
 pub record Promise (a : Ask) (s s′ : Slices) (out out′ : List ℕ) (r : Reply) : Type 0 where
@@ -159,3 +162,5 @@ Reads a s r = Promise a s s [] [] r
 -- load and reset take whatever was there: they promise the same of any contents
 pub record AnyPromise (a : Ask) (s s′ : Slices) (r : Reply) : Type 0 where
   pub decides : (t : State) → Decided t a s s′ [] [] r
+  -- "returns a zero score change"
+  pub zero : (k : Refusal) → r ≡ refused k → changeOf r ≡ noChange

@@ -5,6 +5,7 @@ ghost use mathlib.Core.Path.{_≡_};
 ghost use Prim.Native.Nat.{_≤_};
 ghost use lib.ListN.{length};
 ghost use Rattle.stores.specs.Headers.{headerOf, openOf, lens};
+ghost use Rattle.rules.specs.Sizes.{baseLength};
 
 pub enum Header {
     Is(Plan),
@@ -19,7 +20,7 @@ pub fn broad(x: u32) -> usize
 
 // Jobs, owners and fixed pairs of a loaded store.
 pub fn told(base: &[u32]) -> Header
-    requires { ⌜ 6661 ≤ length (now base) ⌝ }
+    requires { ⌜ baseLength ≤ length (now base) ⌝ }
     ensures { λ r. ⌜ r ≡ headerOf (now (base .entry)) ⌝ }
 {
     let mark = base[0];

@@ -4,6 +4,7 @@ use crate::header::opened;
 use crate::reset::Ended;
 use routes::rows::Done;
 use rules::Owner;
+use rules::Plan;
 use rules::Refusal;
 ghost use mathlib.Core.List.{[]};
 ghost use Rattle.rules.specs.Calls.{to-retract};
@@ -29,7 +30,7 @@ pub fn retract(
             if !plan.has_owner(owner) {
                 return Ended::Refused(Refusal::NoSuchOwner);
             }
-            match routes::wait::retract(&mut routes[..1794], owner.0 as u16) {
+            match routes::wait::retract(&mut routes[..Plan::ROUTES], owner.0 as u16) {
                 Done::Bad => Ended::Refused(Refusal::BadStore),
                 Done::Fine => Ended::Fine,
             }

@@ -10,6 +10,7 @@ ghost use Prim.Native.Nat.{_+_, _≤_};
 ghost use lib.ListN.{length};
 ghost use Rattle.rules.specs.Scores.{assignment as assignmentOf};
 ghost use Rattle.rules.specs.Calls.{to-score};
+ghost use Rattle.rules.specs.Sizes.{mostJobs, routesLength};
 ghost use Rattle.stores.specs.Promise.{Reads, slices};
 ghost use Rattle.stores.specs.Says.{saysCounted};
 ghost use Rattle.stores.specs.Sums.{Summed, Assigned, Penal, ScoredBy};
@@ -26,7 +27,7 @@ pub enum Counted {
 
 // The sum of the words from f up to t.
 fn sum_of(r: &[u16], f: usize, t: usize) -> u64
-    requires { ⌜ (f ≤ t) × (t ≤ length (now r)) × (t ≤ 1794) ⌝ }
+    requires { ⌜ (f ≤ t) × (t ≤ length (now r)) × (t ≤ routesLength) ⌝ }
     ensures { λ s. ⌜ Summed (now (r .entry)) f t s ⌝ }
 {
     let mut sum: u64 = 0;
@@ -49,7 +50,7 @@ fn assignment(c: u16) -> u64
 }
 
 fn assignments(r: &[u16], n: usize) -> u64
-    requires { ⌜ (1794 ≤ length (now r)) × (n ≤ 512) ⌝ }
+    requires { ⌜ (routesLength ≤ length (now r)) × (n ≤ mostJobs) ⌝ }
     ensures { λ s. ⌜ Assigned (now (r .entry)) n s ⌝ }
 {
     let mut sum: u64 = 0;
@@ -63,7 +64,7 @@ fn assignments(r: &[u16], n: usize) -> u64
 
 // All but the cycle penalty.
 fn static_penalty(base: &[u32], routes: &[u16], plan: Plan) -> u64
-    requires { ⌜ (5 ≤ length (now base)) × (1794 ≤ length (now routes)) × (plan .jobs ≤ 512) ⌝ }
+    requires { ⌜ (5 ≤ length (now base)) × (routesLength ≤ length (now routes)) × (plan .jobs ≤ mostJobs) ⌝ }
     ensures { λ r. ⌜ Penal (now (base .entry)) (now (routes .entry)) (plan .jobs) r ⌝ }
 {
     let fixed = base[4] as u64;
@@ -74,7 +75,7 @@ fn static_penalty(base: &[u32], routes: &[u16], plan: Plan) -> u64
 
 // The score of a loaded store.
 pub fn score_of(base: &[u32], routes: &[u16], times: &[u64], plan: Plan) -> Scored
-    requires { ⌜ (5 ≤ length (now base)) × (1794 ≤ length (now routes)) × (2 ≤ length (now times)) × (plan .jobs ≤ 512) ⌝ }
+    requires { ⌜ (5 ≤ length (now base)) × (routesLength ≤ length (now routes)) × (2 ≤ length (now times)) × (plan .jobs ≤ mostJobs) ⌝ }
     ensures { λ r. ⌜ ScoredBy (now (base .entry)) (now (routes .entry)) (now (times .entry)) (plan .jobs) r ⌝ }
 {
     let penalty = static_penalty(base, routes, plan);

@@ -2,6 +2,7 @@
 use crate::header::Header;
 use crate::header::broad;
 use crate::header::opened;
+use rules::Plan;
 use rules::Refusal;
 use tables::u64s::copy;
 ghost use lib.ListN.{length};
@@ -34,7 +35,7 @@ pub fn starts(
             if out.len() < n {
                 return Started::Refused(Refusal::ShortAnswer);
             }
-            copy(out, 0, &times[2..514], n);
+            copy(out, 0, &times[2..Plan::TIMES], n);
             Started::All(n)
         }
     }

@@ -1,3 +1,0 @@
--- What a load checks and leaves. Assumes nothing.
-pub mod Loads
-pub mod Fills

@@ -1,0 +1,78 @@
+-- `write`: base, durations, edges and routes. Assumes nothing.
+use native.Mathlib.Omega.{arith}
+use mathlib.Core.Path.{sym, _∙_}
+use lib.Seq.{length-take-le}
+use Rattle.refresh.proofs.Fresh.{sizes, fixing, laid}
+use borrow.Author.Needs.{needs}
+use Rattle.refresh.proofs.load.write.Statement.{statement}
+use Rattle.refresh.proofs.load.write.Tie as tie
+use Rattle.rules.specs.Sizes.{edgesLength}
+
+write-base-requires : tie.Need-write-base-requires
+write-base-requires c κs =
+    let start = c .before .before .before .before .before .before .before .before .before in
+    let S = sizes _ (start .pre .fine) in
+    (start .pre .base-long, S .fixed, sym (S .pairs), omega (arith, S .expected, S .jobs))
+
+write-spans-requires : tie.Need-write-spans-requires
+write-spans-requires c κs =
+    let start = c .before .before .before .before .before .before .before .before .before .before .before .before .before in
+    let S = sizes _ (start .pre .fine) in
+    (omega (arith, S .durations, S .jobs), start .pre .spans-long)
+
+slice-relend-prefix-fixed : tie.Need-slice-relend-prefix-fixed
+slice-relend-prefix-fixed c = search needs
+
+slice-aggregate-fixed : tie.Need-slice-aggregate-fixed
+slice-aggregate-fixed c =
+    let at-base = c .before .before .before .before .before .before .before in
+    let start = at-base .before .before .before .before .before .before .before .before .before .before in
+    sym (length-take-le edgesLength (start .args .edges .now) (start .pre .edges-long))
+
+fixed-requires : tie.Need-fixed-requires
+fixed-requires c κs =
+    let at-base = c .before .before .before .before .before .before .before in
+    let start = at-base .before .before .before .before .before .before .before .before .before .before in
+    fixing _ (start .pre .fine) (length-take-le edgesLength (start .args .edges .now) (start .pre .edges-long))
+
+fill-requires : tie.Need-fill-requires
+fill-requires c κs = search needs
+
+same-length : tie.Need-same-length
+same-length c = search needs
+
+same-length-2 : tie.Need-same-length-2
+same-length-2 c = search needs
+
+same-length-3 : tie.Need-same-length-3
+same-length-3 c = search needs
+
+same-length-4 : tie.Need-same-length-4
+same-length-4 c = search needs
+
+returns : tie.Need-returns
+returns c =
+    let at-fill = c .before .before in
+    let at-fixed = at-fill .before .before .before .before in
+    let at-spans = at-fixed .before .before .before .before in
+    let at-base = at-spans .before .before .before .before in
+    let start = at-base .before .before .before .before .before .before .before .before .before .before in
+    laid _ (start .pre .fine) (start .pre .routes-long) (at-base .write-base .ensures) (at-spans .write-spans .ensures)
+    (at-fixed .fixed .ensures) (at-fixed .fixed .kept .0 ∙ length-take-le edgesLength (start .args .edges .now) (start .pre .edges-long))
+    (at-fill .fill .ensures)
+
+pub write-spec : {M : Type 1} → statement M
+write-spec =
+    tie.close
+    (tie.spec
+    write-base-requires
+    write-spans-requires
+    slice-relend-prefix-fixed
+    slice-aggregate-fixed
+    fixed-requires
+    fill-requires
+    same-length
+    same-length-2
+    same-length-3
+    same-length-4
+    returns)
