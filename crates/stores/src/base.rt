@@ -92,7 +92,14 @@ fn write_head(base: &mut [u32], jobs: u32, owners: u32, fixed: u32, invalid: u32
     base[4] = invalid;
 }
 
-pub fn write_base(base: &mut [u32], jobs: u32, owners: u32, expected: &[u32], from: &[u32], to: &[u32])
+pub fn write_base(
+    base: &mut [u32],
+    jobs: u32,
+    owners: u32,
+    expected: &[u32],
+    from: &[u32],
+    to: &[u32],
+)
     requires { ⌜ (baseLength ≤ length (now base)) × (length (now from) ≤ mostFixed) × (length (now to) ≡ length (now from))
         × (length (now expected) ≤ mostJobs) ⌝ }
     ensures { λ _. ⌜ now (base .exit)

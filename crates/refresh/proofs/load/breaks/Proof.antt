@@ -14,12 +14,6 @@ returns c =
     let the-if1 = c .if1 in
     breaks-fixed _ _ _ _ _ _ (the-if1 .taken)
 
-cast-t10 : tie.Need-cast-t10
-cast-t10 c = search needs
-
-fits-requires : tie.Need-fits-requires
-fits-requires c κs = search needs
-
 returns-2 : tie.Need-returns-2
 returns-2 c =
     let the-fits2 = c .before .fits2 in
@@ -33,9 +27,6 @@ returns-3 c =
     let the-if3 = c .if3 in
     let fits = sym (the-fits2 .ensures) ∙ not-false _ (the-if2 .left) in
     breaks-pairs _ _ _ _ _ _ fits (the-if3 .taken)
-
-broad-requires : tie.Need-broad-requires
-broad-requires c κs = search needs
 
 returns-4 : tie.Need-returns-4
 returns-4 c =
@@ -77,11 +68,11 @@ breaks-spec =
     tie.close
     (tie.spec
     returns
-    cast-t10
-    fits-requires
+    (λ c. search needs)
+    (λ c κs. search needs)
     returns-2
     returns-3
-    broad-requires
+    (λ c κs. search needs)
     returns-4
     returns-5
     returns-6)

@@ -5,17 +5,11 @@ use borrow.Author.Needs.{needs}
 use Rattle.refresh.proofs.load.check.Statement.{statement}
 use Rattle.refresh.proofs.load.check.Tie as tie
 
-breaks-requires : tie.Need-breaks-requires
-breaks-requires c κs = search needs
-
 returns : tie.Need-returns
 returns c =
     let the-if1 = c .if1 in
     let the-breaks = c .before .breaks in
     checked-size _ (sym (the-if1 .taken) ∙ the-breaks .ensures)
-
-has-long-requires : tie.Need-has-long-requires
-has-long-requires c κs = search needs
 
 returns-2 : tie.Need-returns-2
 returns-2 c =
@@ -24,9 +18,6 @@ returns-2 c =
     let the-if2 = c .if2 in
     let the-has-long = c .before .has-long in
     checked-long _ (sym (the-if1 .left) ∙ the-breaks .ensures) (sym (the-if2 .taken) ∙ the-has-long .ensures)
-
-bad-from-requires : tie.Need-bad-from-requires
-bad-from-requires c κs = search needs
 
 returns-3 : tie.Need-returns-3
 returns-3 c =
@@ -54,10 +45,10 @@ pub check-spec : {M : Type 1} → statement M
 check-spec =
     tie.close
     (tie.spec
-    breaks-requires
+    (λ c κs. search needs)
     returns
-    has-long-requires
+    (λ c κs. search needs)
     returns-2
-    bad-from-requires
+    (λ c κs. search needs)
     returns-3
     returns-4)

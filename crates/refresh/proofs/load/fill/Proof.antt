@@ -22,21 +22,6 @@ first-score-requires c κs =
     let start = at-write .before .before .before .before .before .before .before .before .before .before .before .before .before .before in
     (search needs, search needs, search needs, search needs, start .pre .1, sizes _ (start .pre .0 .fine) .jobs)
 
-same-length : tie.Need-same-length
-same-length c = search needs
-
-same-length-2 : tie.Need-same-length-2
-same-length-2 c = search needs
-
-same-length-3 : tie.Need-same-length-3
-same-length-3 c = search needs
-
-same-length-4 : tie.Need-same-length-4
-same-length-4 c = search needs
-
-same-length-5 : tie.Need-same-length-5
-same-length-5 c = search needs
-
 returns : tie.Need-returns
 returns c =
     let at-score = c .before .before in
@@ -51,9 +36,9 @@ fill-spec =
     write-requires
     cast-t23
     first-score-requires
-    same-length
-    same-length-2
-    same-length-3
-    same-length-4
-    same-length-5
+    (λ c. search needs)
+    (λ c. search needs)
+    (λ c. search needs)
+    (λ c. search needs)
+    (λ c. search needs)
     returns)

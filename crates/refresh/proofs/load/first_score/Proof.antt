@@ -18,16 +18,10 @@ slice-aggregate-anew-2 c =
     let start = c .before .before .before .before .before .before .before in
     sym (length-take-le 512 (start .args .spans .now) (start .pre .1))
 
-slice-relend-prefix-anew : tie.Need-slice-relend-prefix-anew
-slice-relend-prefix-anew c = search needs
-
 slice-aggregate-anew-3 : tie.Need-slice-aggregate-anew-3
 slice-aggregate-anew-3 c =
     let start = c .before .before .before .before .before .before .before .before in
     sym (length-take-le timesLength (start .args .times .now) (start .pre .4))
-
-broad-requires : tie.Need-broad-requires
-broad-requires c κs = search needs
 
 anew-requires : tie.Need-anew-requires
 anew-requires c κs =
@@ -39,25 +33,10 @@ anew-requires c κs =
       omega (arith, c .broad .ensures, p .5),
     )
 
-enum-told : tie.Need-enum-told
-enum-told c = search needs
-
-enum-told-2 : tie.Need-enum-told-2
-enum-told-2 c = search needs
-
-score-of-requires : tie.Need-score-of-requires
-score-of-requires c κs = search needs
-
-same-length : tie.Need-same-length
-same-length c = search needs
-
 returns : tie.Need-returns
 returns c =
     let at-anew = c .before .before .before .before in
     rates-bad (at-anew .before .broad .ensures) (rw (c .enum-told .given .1) at (at-anew .anew .ensures))
-
-same-length-2 : tie.Need-same-length-2
-same-length-2 c = search needs
 
 returns-2 : tie.Need-returns-2
 returns-2 c =
@@ -72,14 +51,14 @@ first-score-spec =
     (tie.spec
     slice-aggregate-anew
     slice-aggregate-anew-2
-    slice-relend-prefix-anew
+    (λ c. search needs)
     slice-aggregate-anew-3
-    broad-requires
+    (λ c κs. search needs)
     anew-requires
-    enum-told
-    enum-told-2
-    score-of-requires
-    same-length
+    (λ c. search needs)
+    (λ c. search needs)
+    (λ c κs. search needs)
+    (λ c. search needs)
     returns
-    same-length-2
+    (λ c. search needs)
     returns-2)

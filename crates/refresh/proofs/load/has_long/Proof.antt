@@ -17,15 +17,6 @@ abbrev μ-loop : tie.MeasureT-loop
 loop-holds : tie.Need-loop-holds Inv-loop μ-loop
 loop-holds c = record { left = refl }
 
-mul-too-long : tie.Need-mul-too-long Inv-loop μ-loop
-mul-too-long c = search needs
-
-shared-slice-read-too-long : tie.Need-shared-slice-read-too-long Inv-loop μ-loop
-shared-slice-read-too-long c = search needs
-
-too-long-requires : tie.Need-too-long-requires Inv-loop μ-loop
-too-long-requires c κs = search needs
-
 returns : tie.Need-returns Inv-loop μ-loop
 returns c =
     let the-loop = c .before .before .before .before .loop in
@@ -33,12 +24,6 @@ returns c =
     let the-too-long = c .before .too-long in
     let the-if1 = c .if1 in
     any-hit (the-loop .inv) (the-loop-test .taken) (sym (the-too-long .ensures) ∙ the-if1 .taken)
-
-add-i : tie.Need-add-i Inv-loop μ-loop
-add-i c = search needs
-
-loop-less : tie.Need-loop-less Inv-loop μ-loop
-loop-less c = search needs
 
 loop-again : tie.Need-loop-again Inv-loop μ-loop
 loop-again c =
@@ -61,11 +46,11 @@ has-long-spec =
     Inv-loop
     μ-loop
     loop-holds
-    mul-too-long
-    shared-slice-read-too-long
-    too-long-requires
+    (λ c. search needs)
+    (λ c. search needs)
+    (λ c κs. search needs)
     returns
-    add-i
-    loop-less
+    (λ c. search needs)
+    (λ c. search needs)
     loop-again
     returns-2)

@@ -6,23 +6,11 @@ use borrow.Author.Needs.{needs}
 use Rattle.refresh.proofs.load.load.Statement.{statement}
 use Rattle.refresh.proofs.load.load.Tie as tie
 
-short-requires : tie.Need-short-requires
-short-requires c κs = search needs
-
 returns : tie.Need-returns
 returns c =
     let the-short = c .before .short in
     let the-if1 = c .if1 in
     load-short _ _ (the-short .ensures) (the-if1 .taken)
-
-check-requires : tie.Need-check-requires
-check-requires c κs = search needs
-
-enum-known-r : tie.Need-enum-known-r
-enum-known-r c = search needs
-
-enum-told : tie.Need-enum-told
-enum-told c = search needs
 
 fill-requires : tie.Need-fill-requires
 fill-requires c κs =
@@ -40,21 +28,6 @@ returns-2 c =
     let at-short = at-check .before .before in
     load-refused _ _ (at-short .short .ensures) (at-check .before .if1 .left) (at-check .check .ensures) (c .before .r .given .1)
 
-same-length : tie.Need-same-length
-same-length c = search needs
-
-same-length-2 : tie.Need-same-length-2
-same-length-2 c = search needs
-
-same-length-3 : tie.Need-same-length-3
-same-length-3 c = search needs
-
-same-length-4 : tie.Need-same-length-4
-same-length-4 c = search needs
-
-same-length-5 : tie.Need-same-length-5
-same-length-5 c = search needs
-
 returns-3 : tie.Need-returns-3
 returns-3 c =
     let at-fill = c .before .before .before .before .before .before .before .before .before .before in
@@ -71,16 +44,16 @@ pub load-spec : {M : Type 1} → statement M
 load-spec =
     tie.close
     (tie.spec
-    short-requires
+    (λ c κs. search needs)
     returns
-    check-requires
-    enum-known-r
-    enum-told
+    (λ c κs. search needs)
+    (λ c. search needs)
+    (λ c. search needs)
     fill-requires
     returns-2
-    same-length
-    same-length-2
-    same-length-3
-    same-length-4
-    same-length-5
+    (λ c. search needs)
+    (λ c. search needs)
+    (λ c. search needs)
+    (λ c. search needs)
+    (λ c. search needs)
     returns-3)

@@ -20,9 +20,6 @@ write-spans-requires c κs =
     let S = sizes _ (start .pre .fine) in
     (omega (arith, S .durations, S .jobs), start .pre .spans-long)
 
-slice-relend-prefix-fixed : tie.Need-slice-relend-prefix-fixed
-slice-relend-prefix-fixed c = search needs
-
 slice-aggregate-fixed : tie.Need-slice-aggregate-fixed
 slice-aggregate-fixed c =
     let at-base = c .before .before .before .before .before .before .before in
@@ -34,21 +31,6 @@ fixed-requires c κs =
     let at-base = c .before .before .before .before .before .before .before in
     let start = at-base .before .before .before .before .before .before .before .before .before .before in
     fixing _ (start .pre .fine) (length-take-le edgesLength (start .args .edges .now) (start .pre .edges-long))
-
-fill-requires : tie.Need-fill-requires
-fill-requires c κs = search needs
-
-same-length : tie.Need-same-length
-same-length c = search needs
-
-same-length-2 : tie.Need-same-length-2
-same-length-2 c = search needs
-
-same-length-3 : tie.Need-same-length-3
-same-length-3 c = search needs
-
-same-length-4 : tie.Need-same-length-4
-same-length-4 c = search needs
 
 returns : tie.Need-returns
 returns c =
@@ -67,12 +49,12 @@ write-spec =
     (tie.spec
     write-base-requires
     write-spans-requires
-    slice-relend-prefix-fixed
+    (λ c. search needs)
     slice-aggregate-fixed
     fixed-requires
-    fill-requires
-    same-length
-    same-length-2
-    same-length-3
-    same-length-4
+    (λ c κs. search needs)
+    (λ c. search needs)
+    (λ c. search needs)
+    (λ c. search needs)
+    (λ c. search needs)
     returns)

@@ -8,27 +8,6 @@ use borrow.Author.Needs.{needs}
 use Rattle.refresh.proofs.put.put.Statement.{statement}
 use Rattle.refresh.proofs.put.put.Tie as tie
 
-opened-requires : tie.Need-opened-requires
-opened-requires c κs = search needs
-
-enum-known-r : tie.Need-enum-known-r
-enum-known-r c = search needs
-
-enum-known-plan : tie.Need-enum-known-plan
-enum-known-plan c = search needs
-
-asked-requires : tie.Need-asked-requires
-asked-requires c κs = search needs
-
-enum-told : tie.Need-enum-told
-enum-told c = search needs
-
-enum-told-2 : tie.Need-enum-told-2
-enum-told-2 c = search needs
-
-enum-told-3 : tie.Need-enum-told-3
-enum-told-3 c = search needs
-
 slice-aggregate-rescore : tie.Need-slice-aggregate-rescore
 slice-aggregate-rescore c =
     let the-opened = c .before .before .before .before .before .before .before .opened in
@@ -109,15 +88,6 @@ returns-3 c =
     let the-enum-told2 = c .enum-told2 in
     put-refused _ _ _ (the-opened .ensures) (the-plan .given .1) (the-asked .ensures) (ap refusalOf (the-enum-told2 .given .1))
 
-same-length : tie.Need-same-length
-same-length c = search needs
-
-same-length-2 : tie.Need-same-length-2
-same-length-2 c = search needs
-
-same-length-3 : tie.Need-same-length-3
-same-length-3 c = search needs
-
 returns-4 : tie.Need-returns-4
 returns-4 c =
     let at-plan = c .before .before .before .before .before .before .before .before .before .before .before .before .before .before .before in
@@ -132,13 +102,13 @@ pub put-spec : {M : Type 1} → statement M
 put-spec =
     tie.close
     (tie.spec
-    opened-requires
-    enum-known-r
-    enum-known-plan
-    asked-requires
-    enum-told
-    enum-told-2
-    enum-told-3
+    (λ c κs. search needs)
+    (λ c. search needs)
+    (λ c. search needs)
+    (λ c κs. search needs)
+    (λ c. search needs)
+    (λ c. search needs)
+    (λ c. search needs)
     slice-aggregate-rescore
     slice-relend-prefix-rescore
     slice-aggregate-rescore-2
@@ -150,7 +120,7 @@ put-spec =
     returns
     returns-2
     returns-3
-    same-length
-    same-length-2
-    same-length-3
+    (λ c. search needs)
+    (λ c. search needs)
+    (λ c. search needs)
     returns-4)

@@ -8,18 +8,6 @@ use borrow.Author.Needs.{needs}
 use Rattle.refresh.proofs.verdict.verdict.Statement.{statement}
 use Rattle.refresh.proofs.verdict.verdict.Tie as tie
 
-opened-requires : tie.Need-opened-requires
-opened-requires c κs = search needs
-
-enum-known-r : tie.Need-enum-known-r
-enum-known-r c = search needs
-
-enum-known-plan : tie.Need-enum-known-plan
-enum-known-plan c = search needs
-
-broad-requires : tie.Need-broad-requires
-broad-requires c κs = search needs
-
 returns : tie.Need-returns
 returns c =
     let the-broad = c .before .broad in
@@ -57,9 +45,6 @@ returns-2 c =
     let the-r = c .before .r in
     verdict-closed _ _ (the-opened .ensures) (the-r .given .1)
 
-same-length : tie.Need-same-length
-same-length c = search needs
-
 returns-3 : tie.Need-returns-3
 returns-3 c =
     let the-if1 = c .before .before .before .before .before .if1 in
@@ -74,13 +59,13 @@ pub verdict-spec : {M : Type 1} → statement M
 verdict-spec =
     tie.close
     (tie.spec
-    opened-requires
-    enum-known-r
-    enum-known-plan
-    broad-requires
+    (λ c κs. search needs)
+    (λ c. search needs)
+    (λ c. search needs)
+    (λ c κs. search needs)
     returns
     slice-aggregate-shown
     shown-requires
     returns-2
-    same-length
+    (λ c. search needs)
     returns-3)

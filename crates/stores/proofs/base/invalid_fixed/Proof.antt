@@ -16,25 +16,10 @@ abbrev μ-loop : tie.MeasureT-loop
 loop-holds : tie.Need-loop-holds Inv-loop μ-loop
 loop-holds c = stray-none _ _
 
-mul-stray : tie.Need-mul-stray Inv-loop μ-loop
-mul-stray c = search needs
-
-shared-slice-read-stray : tie.Need-shared-slice-read-stray Inv-loop μ-loop
-shared-slice-read-stray c = search needs
-
-stray-requires : tie.Need-stray-requires Inv-loop μ-loop
-stray-requires c κs = search needs
-
 add-sum : tie.Need-add-sum Inv-loop μ-loop
 add-sum c =
     let the-stray = c .stray in
     let e = the-stray .ensures .1 in omega arith
-
-add-i : tie.Need-add-i Inv-loop μ-loop
-add-i c = search needs
-
-loop-less : tie.Need-loop-less Inv-loop μ-loop
-loop-less c = search needs
 
 loop-again : tie.Need-loop-again Inv-loop μ-loop
 loop-again c =
@@ -56,11 +41,11 @@ invalid-fixed-spec =
     Inv-loop
     μ-loop
     loop-holds
-    mul-stray
-    shared-slice-read-stray
-    stray-requires
+    (λ c. search needs)
+    (λ c. search needs)
+    (λ c κs. search needs)
     add-sum
-    add-i
-    loop-less
+    (λ c. search needs)
+    (λ c. search needs)
     loop-again
     returns)

@@ -5,18 +5,6 @@ use borrow.Author.Needs.{needs}
 use Rattle.stores.proofs.base.lay.Statement.{statement}
 use Rattle.stores.proofs.base.lay.Tie as tie
 
-copy-requires : tie.Need-copy-requires
-copy-requires c κs = search needs
-
-add-fill : tie.Need-add-fill
-add-fill c = search needs
-
-fill-requires : tie.Need-fill-requires
-fill-requires c κs = search needs
-
-same-length : tie.Need-same-length
-same-length c = search needs
-
 returns : tie.Need-returns
 returns c =
     let start = c .before .before .before .before .before .before .before .before .before .before in
@@ -25,4 +13,4 @@ returns c =
     laid _ (start .args .s .now) _ _ _ (the-copy .ensures) (the-fill .ensures) refl
 
 pub lay-spec : {M : Type 1} → statement M
-lay-spec = tie.close (tie.spec copy-requires add-fill fill-requires same-length returns)
+lay-spec = tie.close (tie.spec (λ c κs. search needs) (λ c. search needs) (λ c κs. search needs) (λ c. search needs) returns)

@@ -4,27 +4,6 @@ use borrow.Author.Needs.{needs}
 use Rattle.stores.proofs.base.write_base.Statement.{statement}
 use Rattle.stores.proofs.base.write_base.Tie as tie
 
-invalid-fixed-requires : tie.Need-invalid-fixed-requires
-invalid-fixed-requires c κs = search needs
-
-cast-write-head : tie.Need-cast-write-head
-cast-write-head c = search needs
-
-write-head-requires : tie.Need-write-head-requires
-write-head-requires c κs = search needs
-
-lay-requires : tie.Need-lay-requires
-lay-requires c κs = search needs
-
-lay-requires-2 : tie.Need-lay-requires-2
-lay-requires-2 c κs = search needs
-
-lay-requires-3 : tie.Need-lay-requires-3
-lay-requires-3 c κs = search needs
-
-same-length : tie.Need-same-length
-same-length c = search needs
-
 returns : tie.Need-returns
 returns c =
     let back = c .before .before .before .before .before .before .before .before .before .before .before .before in
@@ -41,11 +20,11 @@ pub write-base-spec : {M : Type 1} → statement M
 write-base-spec =
     tie.close
     (tie.spec
-    invalid-fixed-requires
-    cast-write-head
-    write-head-requires
-    lay-requires
-    lay-requires-2
-    lay-requires-3
-    same-length
+    (λ c κs. search needs)
+    (λ c. search needs)
+    (λ c κs. search needs)
+    (λ c κs. search needs)
+    (λ c κs. search needs)
+    (λ c κs. search needs)
+    (λ c. search needs)
     returns)

@@ -5,9 +5,6 @@ use borrow.Author.Needs.{needs}
 use Rattle.stores.proofs.base.write_head.Statement.{statement}
 use Rattle.stores.proofs.base.write_head.Tie as tie
 
-slice-write-base : tie.Need-slice-write-base
-slice-write-base c = search needs
-
 slice-write-base-2 : tie.Need-slice-write-base-2
 slice-write-base-2 c = simp length-set (omega arith)
 
@@ -23,17 +20,14 @@ slice-write-base-5 c = simp length-set (omega arith)
 same-length : tie.Need-same-length
 same-length c = simp length-set
 
-returns : tie.Need-returns
-returns c = search needs
-
 pub write-head-spec : {M : Type 1} → statement M
 write-head-spec =
     tie.close
     (tie.spec
-    slice-write-base
+    (λ c. search needs)
     slice-write-base-2
     slice-write-base-3
     slice-write-base-4
     slice-write-base-5
     same-length
-    returns)
+    (λ c. search needs))

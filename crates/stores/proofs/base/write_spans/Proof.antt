@@ -4,15 +4,6 @@ use borrow.Author.Needs.{needs}
 use Rattle.stores.proofs.base.write_spans.Statement.{statement}
 use Rattle.stores.proofs.base.write_spans.Tie as tie
 
-copy-requires : tie.Need-copy-requires
-copy-requires c κs = search needs
-
-fill-requires : tie.Need-fill-requires
-fill-requires c κs = search needs
-
-same-length : tie.Need-same-length
-same-length c = search needs
-
 returns : tie.Need-returns
 returns c =
     let start = c .before .before .before .before .before .before .before .before .before .before in
@@ -21,4 +12,4 @@ returns c =
     spans-laid _ (start .args .s .now) (the-copy .ensures) (the-fill .ensures) (start .pre .0) (start .pre .1)
 
 pub write-spans-spec : {M : Type 1} → statement M
-write-spans-spec = tie.close (tie.spec copy-requires fill-requires same-length returns)
+write-spans-spec = tie.close (tie.spec (λ c κs. search needs) (λ c κs. search needs) (λ c. search needs) returns)

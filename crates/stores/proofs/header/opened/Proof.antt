@@ -6,9 +6,6 @@ use borrow.Author.Needs.{needs}
 use Rattle.stores.proofs.header.opened.Statement.{statement}
 use Rattle.stores.proofs.header.opened.Tie as tie
 
-short-requires : tie.Need-short-requires
-short-requires c κs = search needs
-
 returns : tie.Need-returns
 returns c =
     let the-short = c .before .short in
@@ -31,4 +28,4 @@ returns-2 c =
     the-told .ensures ∙ sym (open-long _ _ (sym (the-short .ensures) ∙ the-if1 .left))
 
 pub opened-spec : {M : Type 1} → statement M
-opened-spec = tie.close (tie.spec short-requires returns told-requires returns-2)
+opened-spec = tie.close (tie.spec (λ c κs. search needs) returns told-requires returns-2)

@@ -5,9 +5,6 @@ use borrow.Author.Needs.{needs}
 use Rattle.stores.proofs.header.told.Statement.{statement}
 use Rattle.stores.proofs.header.told.Tie as tie
 
-shared-slice-read-mark : tie.Need-shared-slice-read-mark
-shared-slice-read-mark c = search needs
-
 returns : tie.Need-returns
 returns c =
     let the-if1 = c .if1 in
@@ -18,18 +15,6 @@ returns-2 c =
     let the-if1 = c .before .if1 in
     let the-if2 = c .if2 in
     sym (mismarked _ (the-if1 .left) (the-if2 .taken))
-
-shared-slice-read-t5 : tie.Need-shared-slice-read-t5
-shared-slice-read-t5 c = search needs
-
-shared-slice-read-t11 : tie.Need-shared-slice-read-t11
-shared-slice-read-t11 c = search needs
-
-shared-slice-read-t13 : tie.Need-shared-slice-read-t13
-shared-slice-read-t13 c = search needs
-
-fits-requires : tie.Need-fits-requires
-fits-requires c κs = search needs
 
 returns-3 : tie.Need-returns-3
 returns-3 c =
@@ -49,12 +34,12 @@ pub told-spec : {M : Type 1} → statement M
 told-spec =
     tie.close
     (tie.spec
-    shared-slice-read-mark
+    (λ c. search needs)
     returns
     returns-2
-    shared-slice-read-t5
-    shared-slice-read-t11
-    shared-slice-read-t13
-    fits-requires
+    (λ c. search needs)
+    (λ c. search needs)
+    (λ c. search needs)
+    (λ c κs. search needs)
     returns-3
     returns-4)

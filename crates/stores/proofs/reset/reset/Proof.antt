@@ -8,9 +8,6 @@ use borrow.Author.Needs.{needs}
 use Rattle.stores.proofs.reset.reset.Statement.{statement}
 use Rattle.stores.proofs.reset.reset.Tie as tie
 
-short-requires : tie.Need-short-requires
-short-requires c κs = search needs
-
 returns : tie.Need-returns
 returns c =
     let the-short = c .before .short in
@@ -27,9 +24,6 @@ slice-write-base c =
     let l = long (lentOf s) (sym (the-short .ensures) ∙ the-if1 .left) in
     omega arith
 
-same-length : tie.Need-same-length
-same-length c = search needs
-
 returns-2 : tie.Need-returns-2
 returns-2 c =
     let the-short = c .before .short in
@@ -37,4 +31,4 @@ returns-2 c =
     reset-done _ (sym (the-short .ensures) ∙ the-if1 .left)
 
 pub reset-spec : {M : Type 1} → statement M
-reset-spec = tie.close (tie.spec short-requires returns slice-write-base same-length returns-2)
+reset-spec = tie.close (tie.spec (λ c κs. search needs) returns slice-write-base (λ c. search needs) returns-2)

@@ -10,18 +10,6 @@ use borrow.Author.Needs.{needs}
 use Rattle.stores.proofs.retract.retract.Statement.{statement}
 use Rattle.stores.proofs.retract.retract.Tie as tie
 
-opened-requires : tie.Need-opened-requires
-opened-requires c κs = search needs
-
-enum-known-r : tie.Need-enum-known-r
-enum-known-r c = search needs
-
-enum-known-plan : tie.Need-enum-known-plan
-enum-known-plan c = search needs
-
-has-owner-requires : tie.Need-has-owner-requires
-has-owner-requires c κs = search needs
-
 returns : tie.Need-returns
 returns c =
     let the-opened = c .before .before .before .before .before .opened in
@@ -68,20 +56,11 @@ retract-requires c κs =
     let l = o .long .routes in
     simp length-take (omega arith)
 
-enum-told : tie.Need-enum-told
-enum-told c = search needs
-
-enum-told-2 : tie.Need-enum-told-2
-enum-told-2 c = search needs
-
 returns-2 : tie.Need-returns-2
 returns-2 c =
     let the-opened = c .before .before .before .opened in
     let the-r = c .before .r in
     retract-closed _ _ (the-opened .ensures) (the-r .given .1)
-
-same-length : tie.Need-same-length
-same-length c = search needs
 
 returns-3 : tie.Need-returns-3
 returns-3 c =
@@ -92,9 +71,6 @@ returns-3 c =
     let the-retract = c .before .before .before .before .retract in
     let the-told = c .enum-told in
     retract-bad _ _ (the-opened .ensures) (the-plan .given .1) (the-owner .ensures) (not-false _ (the-if1 .left)) (the-retract .ensures) (the-told .given .1)
-
-same-length-2 : tie.Need-same-length-2
-same-length-2 c = search needs
 
 returns-4 : tie.Need-returns-4
 returns-4 c =
@@ -110,19 +86,19 @@ pub retract-spec : {M : Type 1} → statement M
 retract-spec =
     tie.close
     (tie.spec
-    opened-requires
-    enum-known-r
-    enum-known-plan
-    has-owner-requires
+    (λ c κs. search needs)
+    (λ c. search needs)
+    (λ c. search needs)
+    (λ c κs. search needs)
     returns
     slice-relend-prefix-retract
     slice-aggregate-retract
     cast-retract
     retract-requires
-    enum-told
-    enum-told-2
+    (λ c. search needs)
+    (λ c. search needs)
     returns-2
-    same-length
+    (λ c. search needs)
     returns-3
-    same-length-2
+    (λ c. search needs)
     returns-4)

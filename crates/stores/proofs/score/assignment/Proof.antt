@@ -5,16 +5,10 @@ use borrow.Author.Needs.{needs}
 use Rattle.stores.proofs.score.assignment.Statement.{statement}
 use Rattle.stores.proofs.score.assignment.Tie as tie
 
-returns : tie.Need-returns
-returns c = search needs
-
-sub-result : tie.Need-sub-result
-sub-result c = search needs
-
 returns-2 : tie.Need-returns-2
 returns-2 c =
     let the-if1 = c .if1 in
     (assigned-more _ (the-if1 .left), omega arith)
 
 pub assignment-spec : {M : Type 1} → statement M
-assignment-spec = tie.close (tie.spec returns sub-result returns-2)
+assignment-spec = tie.close (tie.spec (λ c. search needs) (λ c. search needs) returns-2)

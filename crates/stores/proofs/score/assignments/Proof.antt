@@ -14,27 +14,6 @@ abbrev μ-loop : tie.MeasureT-loop
 loop-holds : tie.Need-loop-holds Inv-loop μ-loop
 loop-holds c = count-none _ _
 
-add-assignment : tie.Need-add-assignment Inv-loop μ-loop
-add-assignment c = search needs
-
-mul-assignment : tie.Need-mul-assignment Inv-loop μ-loop
-mul-assignment c = search needs
-
-shared-slice-read-assignment : tie.Need-shared-slice-read-assignment Inv-loop μ-loop
-shared-slice-read-assignment c = search needs
-
-assignment-requires : tie.Need-assignment-requires Inv-loop μ-loop
-assignment-requires c κs = search needs
-
-add-sum : tie.Need-add-sum Inv-loop μ-loop
-add-sum c = search needs
-
-add-i : tie.Need-add-i Inv-loop μ-loop
-add-i c = search needs
-
-loop-less : tie.Need-loop-less Inv-loop μ-loop
-loop-less c = search needs
-
 loop-again : tie.Need-loop-again Inv-loop μ-loop
 loop-again c =
     let the-loop = c .before .before .before .loop in
@@ -55,12 +34,12 @@ assignments-spec =
     Inv-loop
     μ-loop
     loop-holds
-    add-assignment
-    mul-assignment
-    shared-slice-read-assignment
-    assignment-requires
-    add-sum
-    add-i
-    loop-less
+    (λ c. search needs)
+    (λ c. search needs)
+    (λ c. search needs)
+    (λ c κs. search needs)
+    (λ c. search needs)
+    (λ c. search needs)
+    (λ c. search needs)
     loop-again
     returns)

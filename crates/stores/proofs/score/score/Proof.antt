@@ -7,15 +7,6 @@ use borrow.Author.Needs.{needs}
 use Rattle.stores.proofs.score.score.Statement.{statement}
 use Rattle.stores.proofs.score.score.Tie as tie
 
-opened-requires : tie.Need-opened-requires
-opened-requires c κs = search needs
-
-enum-known-r : tie.Need-enum-known-r
-enum-known-r c = search needs
-
-enum-known-plan : tie.Need-enum-known-plan
-enum-known-plan c = search needs
-
 score-of-requires : tie.Need-score-of-requires
 score-of-requires c κs =
     let the-opened = c .before .before .before .opened in
@@ -24,12 +15,6 @@ score-of-requires c κs =
     let l = o .long in
     let j = o .jobs in
     search needs
-
-enum-known-r-2 : tie.Need-enum-known-r-2
-enum-known-r-2 c = search needs
-
-enum-known-s : tie.Need-enum-known-s
-enum-known-s c = search needs
 
 match-count-requires : tie.Need-match-count-requires
 match-count-requires c κs =
@@ -64,12 +49,12 @@ pub score-spec : {M : Type 1} → statement M
 score-spec =
     tie.close
     (tie.spec
-    opened-requires
-    enum-known-r
-    enum-known-plan
+    (λ c κs. search needs)
+    (λ c. search needs)
+    (λ c. search needs)
     score-of-requires
-    enum-known-r-2
-    enum-known-s
+    (λ c. search needs)
+    (λ c. search needs)
     match-count-requires
     returns
     returns-2

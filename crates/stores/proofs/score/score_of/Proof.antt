@@ -4,15 +4,6 @@ use borrow.Author.Needs.{needs}
 use Rattle.stores.proofs.score.score_of.Statement.{statement}
 use Rattle.stores.proofs.score.score_of.Tie as tie
 
-static-penalty-requires : tie.Need-static-penalty-requires
-static-penalty-requires c κs = search needs
-
-shared-slice-read-cyclic : tie.Need-shared-slice-read-cyclic
-shared-slice-read-cyclic c = search needs
-
-shared-slice-read-makespan : tie.Need-shared-slice-read-makespan
-shared-slice-read-makespan c = search needs
-
 returns : tie.Need-returns
 returns c =
     let the-if1 = c .if1 in
@@ -24,15 +15,6 @@ returns-2 c =
     let the-if2 = c .if2 in
     scored-wide (the-if1 .left) (the-if2 .taken)
 
-cast-of : tie.Need-cast-of
-cast-of c = search needs
-
-add-of : tie.Need-add-of
-add-of c = search needs
-
-of-requires : tie.Need-of-requires
-of-requires c κs = search needs
-
 returns-3 : tie.Need-returns-3
 returns-3 c =
     let the-static-penalty = c .before .before .before .before .before .before .before .static-penalty in
@@ -42,9 +24,6 @@ returns-3 c =
     let the-if3 = c .before .before .if3 in
     let the-of = c .of in
     scored-cyclic (the-static-penalty .ensures) (start .pre .3) (the-if1 .left) (the-if2 .left) (the-if3 .taken) (the-of .ensures)
-
-of-requires-2 : tie.Need-of-requires-2
-of-requires-2 c κs = search needs
 
 returns-4 : tie.Need-returns-4
 returns-4 c =
@@ -60,14 +39,14 @@ pub score-of-spec : {M : Type 1} → statement M
 score-of-spec =
     tie.close
     (tie.spec
-    static-penalty-requires
-    shared-slice-read-cyclic
-    shared-slice-read-makespan
+    (λ c κs. search needs)
+    (λ c. search needs)
+    (λ c. search needs)
     returns
     returns-2
-    cast-of
-    add-of
-    of-requires
+    (λ c. search needs)
+    (λ c. search needs)
+    (λ c κs. search needs)
     returns-3
-    of-requires-2
+    (λ c κs. search needs)
     returns-4)

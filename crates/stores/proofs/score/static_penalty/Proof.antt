@@ -5,22 +5,10 @@ use borrow.Author.Needs.{needs}
 use Rattle.stores.proofs.score.static_penalty.Statement.{statement}
 use Rattle.stores.proofs.score.static_penalty.Tie as tie
 
-shared-slice-read-fixed : tie.Need-shared-slice-read-fixed
-shared-slice-read-fixed c = search needs
-
 cast-fixed : tie.Need-cast-fixed
 cast-fixed c =
     let the-shared-slice-known3 = c .shared-slice-known3 in
     omega (arith, the-shared-slice-known3 .given 4)
-
-sum-of-requires : tie.Need-sum-of-requires
-sum-of-requires c κs = search needs
-
-broad-requires : tie.Need-broad-requires
-broad-requires c κs = search needs
-
-assignments-requires : tie.Need-assignments-requires
-assignments-requires c κs = search needs
 
 add-result : tie.Need-add-result
 add-result c =
@@ -50,11 +38,11 @@ pub static-penalty-spec : {M : Type 1} → statement M
 static-penalty-spec =
     tie.close
     (tie.spec
-    shared-slice-read-fixed
+    (λ c. search needs)
     cast-fixed
-    sum-of-requires
-    broad-requires
-    assignments-requires
+    (λ c κs. search needs)
+    (λ c κs. search needs)
+    (λ c κs. search needs)
     add-result
     add-result-2
     returns)

@@ -8,18 +8,6 @@ use borrow.Author.Needs.{needs}
 use Rattle.stores.proofs.starts.starts.Statement.{statement}
 use Rattle.stores.proofs.starts.starts.Tie as tie
 
-opened-requires : tie.Need-opened-requires
-opened-requires c κs = search needs
-
-enum-known-r : tie.Need-enum-known-r
-enum-known-r c = search needs
-
-enum-known-plan : tie.Need-enum-known-plan
-enum-known-plan c = search needs
-
-broad-requires : tie.Need-broad-requires
-broad-requires c κs = search needs
-
 returns : tie.Need-returns
 returns c =
     let the-broad = c .before .broad in
@@ -29,12 +17,6 @@ returns c =
     let b = the-broad .ensures in
     let d = the-if1 .taken in
     starts-few _ _ (the-opened .ensures) (the-plan .given .1) (omega arith)
-
-sub-copy : tie.Need-sub-copy
-sub-copy c = search needs
-
-part-copy-start : tie.Need-part-copy-start
-part-copy-start c = search needs
 
 part-copy-end : tie.Need-part-copy-end
 part-copy-end c =
@@ -63,9 +45,6 @@ returns-2 c =
     let the-r = c .before .r in
     starts-closed _ _ (the-opened .ensures) (the-r .given .1)
 
-same-length : tie.Need-same-length
-same-length c = search needs
-
 returns-3 : tie.Need-returns-3
 returns-3 c =
     let the-if1 = c .before .before .before .before .before .if1 in
@@ -80,15 +59,15 @@ pub starts-spec : {M : Type 1} → statement M
 starts-spec =
     tie.close
     (tie.spec
-    opened-requires
-    enum-known-r
-    enum-known-plan
-    broad-requires
+    (λ c κs. search needs)
+    (λ c. search needs)
+    (λ c. search needs)
+    (λ c κs. search needs)
     returns
-    sub-copy
-    part-copy-start
+    (λ c. search needs)
+    (λ c. search needs)
     part-copy-end
     copy-requires
     returns-2
-    same-length
+    (λ c. search needs)
     returns-3)
