@@ -45,11 +45,11 @@ use Rattle.probes.specs.Judges.{Checks, onFor, staysFor}
 use Rattle.views.specs.Pairs.{Rising, fromsIn, pairsIn}
 use Rattle.probes.specs.declared.checks.Checked.{Checked}
 use Rattle.probes.specs.declared.checks.Checked.the-variants.{Is as Checks-are, Bad}
-use Rattle.reroutes.specs.Stopping.{Stops, Whole}
+use Rattle.moves.specs.Stopping.{Stops, Whole}
 use Rattle.moves.specs.declared.moved.Begun.{Begun}
 use Rattle.moves.specs.declared.moved.Begun.the-variants.{Is as Ready, Refused as Unready}
-use Rattle.reroutes.specs.declared.stops.Route.{Route as Stopped}
-use Rattle.reroutes.specs.declared.stops.Route.the-variants.{Of, Broken, Bad as Lost}
+use Rattle.moves.specs.declared.stops.Route.{Route as Stopped}
+use Rattle.moves.specs.declared.stops.Route.the-variants.{Of, Broken, Bad as Lost}
 use Rattle.moves.specs.declared.moved.Moved.{Moved}
 use Rattle.moves.specs.declared.moved.Moved.the-variants.{Is, Refused}
 

@@ -1,11 +1,11 @@
 // After an exchange of edges: the verdict and the starts, as the report says.
+use backs::back;
 use edges::spans::wide;
 use kernels::lines::Lined;
 use kernels::rows::Tail;
 use pulls::fulls::full;
 use rules::Report;
 use tables::u64s::fill;
-use backs::back;
 use walks::walks::Walked;
 use walks::walks::walk;
 ghost use mathlib.Core.Path.{_≡_};
