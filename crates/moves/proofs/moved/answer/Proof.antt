@@ -9,24 +9,6 @@ use borrow.Author.Needs.{needs}
 use Rattle.moves.proofs.moved.answer.Statement.{statement}
 use Rattle.moves.proofs.moved.answer.Tie as tie
 
-slice-aggregate-begin : tie.Need-slice-aggregate-begin
-slice-aggregate-begin c = search needs
-
-begin-requires : tie.Need-begin-requires
-begin-requires c κs = search needs
-
-enum-known-r : tie.Need-enum-known-r
-enum-known-r c = search needs
-
-enum-known-plan : tie.Need-enum-known-plan
-enum-known-plan c = search needs
-
-slice-aggregate-place : tie.Need-slice-aggregate-place
-slice-aggregate-place c = search needs
-
-slice-aggregate-place-2 : tie.Need-slice-aggregate-place-2
-slice-aggregate-place-2 c = search needs
-
 place-requires : tie.Need-place-requires
 place-requires c κs =
     let the-begin = c .before .before .before .before .before .before .begin in
@@ -46,12 +28,6 @@ slice-aggregate-finish c =
     let the-begin = c .before .before .before .before .before .before .before .before .before .before .begin in
     let the-plan = c .before .before .before .before .before .before .before .plan in
     let o = open-is _ _ _ (ready (the-begin .ensures) (the-plan .given .1) .opens) in let l = o .long .edges in simp length-take (omega arith)
-
-slice-aggregate-finish-2 : tie.Need-slice-aggregate-finish-2
-slice-aggregate-finish-2 c = search needs
-
-slice-aggregate-finish-3 : tie.Need-slice-aggregate-finish-3
-slice-aggregate-finish-3 c = search needs
 
 finish-requires : tie.Need-finish-requires
 finish-requires c κs =
@@ -77,9 +53,6 @@ returns-2 c =
     let the-r = c .before .r in
     moved-refused _ _ _ _ (the-begin .ensures) (the-r .given .1)
 
-same-length : tie.Need-same-length
-same-length c = search needs
-
 returns-3 : tie.Need-returns-3
 returns-3 c =
     let the-begin = c .before .before .before .before .before .before .before .before .before .before .before .before .before .before
@@ -94,18 +67,18 @@ pub answer-spec : {M : Type 1} → statement M
 answer-spec =
     tie.close
     (tie.spec
-    slice-aggregate-begin
-    begin-requires
-    enum-known-r
-    enum-known-plan
-    slice-aggregate-place
-    slice-aggregate-place-2
+    (λ c. search needs)
+    (λ c κs. search needs)
+    (λ c. search needs)
+    (λ c. search needs)
+    (λ c. search needs)
+    (λ c. search needs)
     place-requires
     returns
     slice-aggregate-finish
-    slice-aggregate-finish-2
-    slice-aggregate-finish-3
+    (λ c. search needs)
+    (λ c. search needs)
     finish-requires
     returns-2
-    same-length
+    (λ c. search needs)
     returns-3)

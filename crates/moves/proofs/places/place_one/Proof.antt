@@ -5,12 +5,6 @@ use borrow.Author.Needs.{needs}
 use Rattle.moves.proofs.places.place_one.Statement.{statement}
 use Rattle.moves.proofs.places.place_one.Tie as tie
 
-broad-requires : tie.Need-broad-requires
-broad-requires c κs = search needs
-
-broad-requires-2 : tie.Need-broad-requires-2
-broad-requires-2 c κs = search needs
-
 returns : tie.Need-returns
 returns c =
     let the-broad = c .before .before .broad in
@@ -26,18 +20,6 @@ returns-2 c =
     let the-if2 = c .if2 in
     one-dest (the-broad .ensures) (the-broad2 .ensures) (the-if1 .left) (the-if2 .taken)
 
-add-sublist-change : tie.Need-add-sublist-change
-add-sublist-change c = search needs
-
-sub-sublist-change : tie.Need-sub-sublist-change
-sub-sublist-change c = search needs
-
-sublist-change-requires : tie.Need-sublist-change-requires
-sublist-change-requires c κs = search needs
-
-same-length : tie.Need-same-length
-same-length c = search needs
-
 returns-3 : tie.Need-returns-3
 returns-3 c =
     let the-broad = c .before .before .before .before .before .before .before .before .broad in
@@ -49,15 +31,6 @@ returns-3 c =
     let the-sublist-change = c .before .before .sublist-change in
     one-on (the-broad .ensures) (the-broad2 .ensures) (the-if1 .left) (the-if2 .left) _ (omega (arith, start .pre .0)) (the-if3 .taken)
     (the-sublist-change .ensures)
-
-add-sublist-change-2 : tie.Need-add-sublist-change-2
-add-sublist-change-2 c = search needs
-
-sublist-change-requires-2 : tie.Need-sublist-change-requires-2
-sublist-change-requires-2 c κs = search needs
-
-same-length-2 : tie.Need-same-length-2
-same-length-2 c = search needs
 
 returns-4 : tie.Need-returns-4
 returns-4 c =
@@ -75,16 +48,16 @@ pub place-one-spec : {M : Type 1} → statement M
 place-one-spec =
     tie.close
     (tie.spec
-    broad-requires
-    broad-requires-2
+    (λ c κs. search needs)
+    (λ c κs. search needs)
     returns
     returns-2
-    add-sublist-change
-    sub-sublist-change
-    sublist-change-requires
-    same-length
+    (λ c. search needs)
+    (λ c. search needs)
+    (λ c κs. search needs)
+    (λ c. search needs)
     returns-3
-    add-sublist-change-2
-    sublist-change-requires-2
-    same-length-2
+    (λ c. search needs)
+    (λ c κs. search needs)
+    (λ c. search needs)
     returns-4)

@@ -6,12 +6,6 @@ use borrow.Author.Needs.{needs}
 use Rattle.moves.proofs.places.place_order.Statement.{statement}
 use Rattle.moves.proofs.places.place_order.Tie as tie
 
-broad-requires : tie.Need-broad-requires
-broad-requires c κs = search needs
-
-broad-requires-2 : tie.Need-broad-requires-2
-broad-requires-2 c κs = search needs
-
 returns : tie.Need-returns
 returns c =
     let the-broad = c .before .before .broad in
@@ -26,9 +20,6 @@ returns-2 c =
     let the-if1 = c .before .if1 in
     let the-if2 = c .if2 in
     order-far (the-broad .ensures) (the-broad2 .ensures) (the-if1 .left) (the-if2 .taken)
-
-is-permutation-requires : tie.Need-is-permutation-requires
-is-permutation-requires c κs = search needs
 
 returns-3 : tie.Need-returns-3
 returns-3 c =
@@ -54,9 +45,6 @@ permutation-requires c κs =
     let (x, y) = order-list (start .args .list .now) _ (the-is-permutation .ensures) (not-false _ (the-if3 .left)) in
     (record { order = the-if1 .left; within = the-if2 .left; old-room = omega arith; new-room = omega arith }, x, y)
 
-same-length : tie.Need-same-length
-same-length c = search needs
-
 returns-4 : tie.Need-returns-4
 returns-4 c =
     let the-broad = c .before .before .before .before .before .before .before .before .before .broad in
@@ -74,12 +62,12 @@ pub place-order-spec : {M : Type 1} → statement M
 place-order-spec =
     tie.close
     (tie.spec
-    broad-requires
-    broad-requires-2
+    (λ c κs. search needs)
+    (λ c κs. search needs)
     returns
     returns-2
-    is-permutation-requires
+    (λ c κs. search needs)
     returns-3
     permutation-requires
-    same-length
+    (λ c. search needs)
     returns-4)

@@ -5,15 +5,6 @@ use borrow.Author.Needs.{needs}
 use Rattle.moves.proofs.places.place_range.Statement.{statement}
 use Rattle.moves.proofs.places.place_range.Tie as tie
 
-broad-requires : tie.Need-broad-requires
-broad-requires c κs = search needs
-
-broad-requires-2 : tie.Need-broad-requires-2
-broad-requires-2 c κs = search needs
-
-broad-requires-3 : tie.Need-broad-requires-3
-broad-requires-3 c κs = search needs
-
 returns : tie.Need-returns
 returns c =
     let the-broad = c .before .before .before .broad in
@@ -31,9 +22,6 @@ returns-2 c =
     let the-if2 = c .if2 in
     change-far (the-broad .ensures) (the-broad2 .ensures) (the-broad3 .ensures) (the-if1 .left) (the-if2 .taken)
 
-sub-if3 : tie.Need-sub-if3
-sub-if3 c = search needs
-
 returns-3 : tie.Need-returns-3
 returns-3 c =
     let the-broad = c .before .before .before .before .before .broad in
@@ -43,12 +31,6 @@ returns-3 c =
     let the-if2 = c .before .if2 in
     let the-if3 = c .if3 in
     change-dest (the-broad .ensures) (the-broad2 .ensures) (the-broad3 .ensures) (the-if1 .left) (the-if2 .left) (the-if3 .taken)
-
-sublist-change-requires : tie.Need-sublist-change-requires
-sublist-change-requires c κs = search needs
-
-same-length : tie.Need-same-length
-same-length c = search needs
 
 returns-4 : tie.Need-returns-4
 returns-4 c =
@@ -67,13 +49,13 @@ pub place-range-spec : {M : Type 1} → statement M
 place-range-spec =
     tie.close
     (tie.spec
-    broad-requires
-    broad-requires-2
-    broad-requires-3
+    (λ c κs. search needs)
+    (λ c κs. search needs)
+    (λ c κs. search needs)
     returns
     returns-2
-    sub-if3
+    (λ c. search needs)
     returns-3
-    sublist-change-requires
-    same-length
+    (λ c κs. search needs)
+    (λ c. search needs)
     returns-4)

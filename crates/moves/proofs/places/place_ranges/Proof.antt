@@ -5,18 +5,6 @@ use borrow.Author.Needs.{needs}
 use Rattle.moves.proofs.places.place_ranges.Statement.{statement}
 use Rattle.moves.proofs.places.place_ranges.Tie as tie
 
-broad-requires : tie.Need-broad-requires
-broad-requires c κs = search needs
-
-broad-requires-2 : tie.Need-broad-requires-2
-broad-requires-2 c κs = search needs
-
-broad-requires-3 : tie.Need-broad-requires-3
-broad-requires-3 c κs = search needs
-
-broad-requires-4 : tie.Need-broad-requires-4
-broad-requires-4 c κs = search needs
-
 returns : tie.Need-returns
 returns c =
     let the-broad = c .before .before .before .before .broad in
@@ -66,12 +54,6 @@ returns-4 c =
     swap-far (the-broad .ensures) (the-broad2 .ensures) (the-broad3 .ensures) (the-broad4 .ensures) (start .pre .3) (the-if1 .left) (the-if2
     .left) (the-if3 .left) (the-if4 .taken)
 
-sublist-swap-requires : tie.Need-sublist-swap-requires
-sublist-swap-requires c κs = search needs
-
-same-length : tie.Need-same-length
-same-length c = search needs
-
 returns-5 : tie.Need-returns-5
 returns-5 c =
     let the-broad = c .before .before .before .before .before .before .before .before .before .before .before .broad in
@@ -91,14 +73,14 @@ pub place-ranges-spec : {M : Type 1} → statement M
 place-ranges-spec =
     tie.close
     (tie.spec
-    broad-requires
-    broad-requires-2
-    broad-requires-3
-    broad-requires-4
+    (λ c κs. search needs)
+    (λ c κs. search needs)
+    (λ c κs. search needs)
+    (λ c κs. search needs)
     returns
     returns-2
     returns-3
     returns-4
-    sublist-swap-requires
-    same-length
+    (λ c κs. search needs)
+    (λ c. search needs)
     returns-5)

@@ -34,9 +34,6 @@ shared-slice-read-broad c =
     let the-loop = c .before .before .loop in
     omega (arith, the-loop .inv .all)
 
-broad-requires : tie.Need-broad-requires Inv-loop μ-loop
-broad-requires c κs = search needs
-
 returns-2 : tie.Need-returns-2 Inv-loop μ-loop
 returns-2 c =
     let the-loop = c .before .before .before .before .loop in
@@ -44,9 +41,6 @@ returns-2 c =
     let the-loop-test = c .before .before .before .loop-test in
     let the-if2 = c .if2 in
     tested-far (the-loop .inv) (the-broad .result) (the-loop-test .taken) (the-broad .ensures) (the-if2 .taken)
-
-array-read-if3 : tie.Need-array-read-if3 Inv-loop μ-loop
-array-read-if3 c = search needs
 
 returns-3 : tie.Need-returns-3 Inv-loop μ-loop
 returns-3 c =
@@ -56,15 +50,6 @@ returns-3 c =
     let the-if2 = c .before .if2 in
     let the-if3 = c .if3 in
     tested-seen (the-loop .inv) (the-broad .result) (the-loop-test .taken) (the-broad .ensures) (the-if2 .left) (the-if3 .taken)
-
-array-write-seen : tie.Need-array-write-seen Inv-loop μ-loop
-array-write-seen c = search needs
-
-add-i : tie.Need-add-i Inv-loop μ-loop
-add-i c = search needs
-
-loop-less : tie.Need-loop-less Inv-loop μ-loop
-loop-less c = search needs
 
 loop-again : tie.Need-loop-again Inv-loop μ-loop
 loop-again c =
@@ -91,12 +76,12 @@ is-permutation-spec =
     loop-holds
     mul-broad
     shared-slice-read-broad
-    broad-requires
+    (λ c κs. search needs)
     returns-2
-    array-read-if3
+    (λ c. search needs)
     returns-3
-    array-write-seen
-    add-i
-    loop-less
+    (λ c. search needs)
+    (λ c. search needs)
+    (λ c. search needs)
     loop-again
     returns-4)

@@ -5,23 +5,11 @@ use borrow.Author.Needs.{needs}
 use Rattle.moves.proofs.reroute.permutation.Statement.{statement}
 use Rattle.moves.proofs.reroute.permutation.Tie as tie
 
-copy-requires : tie.Need-copy-requires
-copy-requires c κs = search needs
-
 permute-requires : tie.Need-permute-requires
 permute-requires c κs =
     let start = c .before .before .before .before .before .before .before .before in
     let piece = start .pre .0 in
     record { low = rw (start .pre .1) (start .pre .2); old-room = omega arith; new-room = omega arith }
-
-sub-copy : tie.Need-sub-copy
-sub-copy c = search needs
-
-copy-requires-2 : tie.Need-copy-requires-2
-copy-requires-2 c κs = search needs
-
-same-length : tie.Need-same-length
-same-length c = search needs
 
 returns : tie.Need-returns
 returns c =
@@ -35,4 +23,4 @@ returns c =
 pub permutation-spec : {M : Type 1} → statement M
 permutation-spec =
     tie.close
-    (tie.spec copy-requires permute-requires sub-copy copy-requires-2 same-length returns)
+    (tie.spec (λ c κs. search needs) permute-requires (λ c. search needs) (λ c κs. search needs) (λ c. search needs) returns)

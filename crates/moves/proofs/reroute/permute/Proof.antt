@@ -16,15 +16,6 @@ abbrev μ-loop : tie.MeasureT-loop
 loop-holds : tie.Need-loop-holds Inv-loop μ-loop
 loop-holds c = fill-start
 
-mul-broad : tie.Need-mul-broad Inv-loop μ-loop
-mul-broad c = search needs
-
-shared-slice-read-broad : tie.Need-shared-slice-read-broad Inv-loop μ-loop
-shared-slice-read-broad c = search needs
-
-broad-requires : tie.Need-broad-requires Inv-loop μ-loop
-broad-requires c κs = search needs
-
 add-new : tie.Need-add-new Inv-loop μ-loop
 add-new c =
     let start = c .before .before .before .before .before .before .before in
@@ -65,12 +56,6 @@ slice-write-new c =
     let the-loop = c .before .before .before .before .loop in
     omega (arith, start .pre .new-room, the-loop .inv .long)
 
-add-i : tie.Need-add-i Inv-loop μ-loop
-add-i c = search needs
-
-loop-less : tie.Need-loop-less Inv-loop μ-loop
-loop-less c = search needs
-
 loop-again : tie.Need-loop-again Inv-loop μ-loop
 loop-again c =
     let the-loop = c .before .before .before .before .loop in
@@ -96,17 +81,17 @@ permute-spec =
     Inv-loop
     μ-loop
     loop-holds
-    mul-broad
-    shared-slice-read-broad
-    broad-requires
+    (λ c. search needs)
+    (λ c. search needs)
+    (λ c κs. search needs)
     add-new
     mul-new
     shared-slice-read-new
     add-new-2
     mul-new-2
     slice-write-new
-    add-i
-    loop-less
+    (λ c. search needs)
+    (λ c. search needs)
     loop-again
     same-length
     returns)

@@ -6,24 +6,6 @@ use borrow.Author.Needs.{needs}
 use Rattle.moves.proofs.stops.route_of.Statement.{statement}
 use Rattle.moves.proofs.stops.route_of.Tie as tie
 
-span-of-requires : tie.Need-span-of-requires
-span-of-requires c κs = search needs
-
-enum-told : tie.Need-enum-told
-enum-told c = search needs
-
-enum-known-f : tie.Need-enum-known-f
-enum-known-f c = search needs
-
-add-if1 : tie.Need-add-if1
-add-if1 c = search needs
-
-mul-if1 : tie.Need-mul-if1
-mul-if1 c = search needs
-
-shared-slice-read-if1 : tie.Need-shared-slice-read-if1
-shared-slice-read-if1 c = search needs
-
 returns : tie.Need-returns
 returns c =
     let start = c .before .before .before .before .before .before .before .before in
@@ -53,9 +35,6 @@ returns-2 c =
     let the-enum-told = c .enum-told in
     stops-bad (senseless _ _ _ (the-span-of .ensures) (the-enum-told .given .1))
 
-same-length : tie.Need-same-length
-same-length c = search needs
-
 returns-3 : tie.Need-returns-3
 returns-3 c =
     let start = c .before .before .before .before .before .before .before .before .before .before .before .before in
@@ -70,15 +49,15 @@ pub route-of-spec : {M : Type 1} → statement M
 route-of-spec =
     tie.close
     (tie.spec
-    span-of-requires
-    enum-told
-    enum-known-f
-    add-if1
-    mul-if1
-    shared-slice-read-if1
+    (λ c κs. search needs)
+    (λ c. search needs)
+    (λ c. search needs)
+    (λ c. search needs)
+    (λ c. search needs)
+    (λ c. search needs)
     returns
     jobs-of-requires
     sub-t8
     returns-2
-    same-length
+    (λ c. search needs)
     returns-3)
