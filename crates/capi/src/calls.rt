@@ -23,7 +23,7 @@ use tells::numbers::zero;
 ghost use mathlib.Core.List.{[]};
 ghost use lib.ListN.{length};
 ghost use Rattle.rules.specs.Calls.{to-load, to-reset, to-retract, to-put, to-score, to-verdict, to-starts};
-ghost use Rattle.loads.specs.Loads.{loading};
+ghost use Rattle.refresh.specs.Loads.{loading};
 ghost use Rattle.stores.specs.Promise.{slices};
 ghost use Rattle.tells.specs.Numbers.{Answers};
 

@@ -13,7 +13,7 @@ use Rattle.rules.specs.Moves.{Move, goodPositions, list-change, moved, permutat
 use Rattle.rules.proofs.Checks.{moved-length}
 use Rattle.rules.proofs.Ranges.{and-true, clash}
 use Rattle.moves.specs.Calls.{Places}
-use Rattle.reroutes.proofs.Laid.{change-one-at, swap-other}
+use Rattle.moves.proofs.Laid.{change-one-at, swap-other}
 
 module _ {m : Move} {k : ℕ} {old : List ℕ} where
   places-not : {new : List ℕ} → goodPositions k m ≡ false → Places m k old false new

@@ -34,7 +34,7 @@ use Rattle.stores.specs.Says.{places}
 use Rattle.stores.specs.Words.{baseWords, froms, padded, tos}
 use Rattle.stores.specs.declared.header.Header.{Header}
 use Rattle.stores.specs.declared.header.Header.the-variants.{Is as Headed, Refused as Unopened}
-use Rattle.loads.proofs.Laying.{padded-length}
+use Rattle.stores.proofs.Laying.{padded-length}
 use Rattle.stores.proofs.Openings.{open-short, open-some}
 use Rattle.stores.proofs.Promises.{closed-kept, decided-read, decided-refused, opened-kept, refusal-long, heeds-first, heeds-later}
 use Rattle.stores.proofs.Scores.{timed}
@@ -45,11 +45,11 @@ use Rattle.probes.specs.Judges.{Checks, onFor, staysFor}
 use Rattle.views.specs.Pairs.{Rising, fromsIn, pairsIn}
 use Rattle.probes.specs.declared.checks.Checked.{Checked}
 use Rattle.probes.specs.declared.checks.Checked.the-variants.{Is as Checks-are, Bad}
-use Rattle.reroutes.specs.Stopping.{Stops, Whole}
+use Rattle.moves.specs.Stopping.{Stops, Whole}
 use Rattle.moves.specs.declared.moved.Begun.{Begun}
 use Rattle.moves.specs.declared.moved.Begun.the-variants.{Is as Ready, Refused as Unready}
-use Rattle.reroutes.specs.declared.stops.Route.{Route as Stopped}
-use Rattle.reroutes.specs.declared.stops.Route.the-variants.{Of, Broken, Bad as Lost}
+use Rattle.moves.specs.declared.stops.Route.{Route as Stopped}
+use Rattle.moves.specs.declared.stops.Route.the-variants.{Of, Broken, Bad as Lost}
 use Rattle.moves.specs.declared.moved.Moved.{Moved}
 use Rattle.moves.specs.declared.moved.Moved.the-variants.{Is, Refused}
 

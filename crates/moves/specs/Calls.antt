@@ -9,7 +9,7 @@ use Rattle.rules.specs.declared.Plan.{Plan as Counts}
 use Rattle.rules.specs.declared.Refusal.{Refusal}
 use Rattle.rules.specs.declared.Refusal.the-variants.{BadStore, ShortAnswer}
 use Rattle.rules.specs.Calls.{Reply, refused, rerouted, to-move}
-use Rattle.rules.specs.Moves.{Move, goodPositions, isMovedCyclic, isMovedQuick, moved, newRoute}
+use Rattle.rules.specs.Moves.{Move, list-change, permutation, sublist-change, sublist-swap, goodPositions, isMovedCyclic, isMovedQuick, moved, newRoute}
 use Rattle.rules.specs.Routes.{Plan, jobsOf, routeOf}
 use Rattle.rules.specs.Sound.{Sound}
 use Rattle.edges.specs.Edges.{Holds}
@@ -20,6 +20,8 @@ use Rattle.stores.specs.Promise.{Held, Promise, Slices, lentOf}
 use Rattle.stores.specs.Says.{places}
 use Rattle.stores.specs.Words.{baseWords}
 use Rattle.stores.specs.declared.header.Header.the-variants.{Is as Headed}
+use Rattle.moves.specs.declared.moved.Asked.{Asked}
+use Rattle.moves.specs.declared.moved.Asked.the-variants.{One, Range, Swap, Order}
 use Rattle.moves.specs.declared.moved.Begun.{Begun}
 use Rattle.moves.specs.declared.moved.Begun.the-variants.{Is as Ready, Refused as Unready}
 use Rattle.moves.specs.declared.moved.Moved.{Moved}
@@ -29,6 +31,13 @@ use Rattle.moves.specs.declared.moved.Moved.the-variants.{Is, Refused}
 abbrev pub saysMoved : List ℕ → Moved → Reply
 saysMoved out (Is k q f) = rerouted (places k out) q f
 saysMoved out (Refused r) = refused r
+
+-- the move that is asked for
+abbrev pub moveOf : Asked → List ℕ → Move
+moveOf (One s d) l = list-change s d
+moveOf (Range a b d) l = sublist-change a b d
+moveOf (Swap a b c d) l = sublist-swap a b c d
+moveOf (Order a b) l = permutation a b l
 
 -- ── the owner's route ──
 

@@ -3,3 +3,6 @@ pub use blocks::blocks::Blocked;
 pub use blocks::blocks::blocks;
 
 pub mod moved;
+mod places;
+mod reroute;
+mod stops;

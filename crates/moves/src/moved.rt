@@ -1,11 +1,14 @@
 // The four moves: the new route into the answer buffer, and both verdicts. The store is only read.
+use crate::places::place_one;
+use crate::places::place_order;
+use crate::places::place_range;
+use crate::places::place_swap;
+use crate::stops::Route;
+use crate::stops::are_jobs;
+use crate::stops::route_of;
 use probes::checks::Checked;
 use probes::checks::check;
 use refresh::verdict::show;
-use reroutes::reroute;
-use reroutes::stops::Route;
-use reroutes::stops::are_jobs;
-use reroutes::stops::route_of;
 use rules::Owner;
 use rules::Plan;
 use rules::Refusal;
@@ -18,7 +21,7 @@ ghost use lib.ListN.{length};
 ghost use Rattle.rules.specs.Calls.{to-move};
 ghost use Rattle.rules.specs.Moves.{list-change, sublist-change, sublist-swap, permutation as permuted};
 ghost use Rattle.stores.specs.Promise.{Promise, slices};
-ghost use Rattle.moves.specs.Calls.{Begins, Finishes, Judges, Places, saysMoved};
+ghost use Rattle.moves.specs.Calls.{Begins, Finishes, Judges, Places, moveOf, saysMoved};
 
 pub enum Moved {
     // The route's length, the quick verdict, the full verdict.
@@ -118,101 +121,58 @@ fn finish(
     judge(base, edges, times, plan, old, new, len, out)
 }
 
-// Each place_.. says whether the positions are good, and if they are writes the new route.
-fn place_change(old: &[u16], len: usize, start: u32, end: u32, dest: u32, new: &mut [u16]) -> bool
+// A move, as the numbers that it is asked with; the list of a permutation stands beside it.
+enum Asked {
+    One(u32, u32),
+    Range(u32, u32, u32),
+    Swap(u32, u32, u32, u32),
+    Order(u32, u32),
+}
+
+// Whether the positions are good, and if they are the new route.
+fn place(asked: Asked, list: &[u32], old: &[u16], len: usize, new: &mut [u16]) -> bool
     requires { ⌜ (length (now old) ≡ 1024) × (length (now new) ≡ 1024) × (len ≤ 1024) ⌝ }
-    ensures { λ r. ⌜ Places (sublist-change start end dest) len (now (old .entry)) r (now (new .exit)) ⌝ }
+    ensures { λ r. ⌜ Places (moveOf asked (now (list .entry))) len (now (old .entry)) r (now (new .exit)) ⌝ }
 {
-    let a = broad(start);
-    let b = broad(end);
-    let d = broad(dest);
-    if b < a {
-        return false;
+    match asked {
+        Asked::One(source, dest) => place_one(old, len, source, dest, new),
+        Asked::Range(start, end, dest) => place_range(old, len, start, end, dest, new),
+        Asked::Swap(a, b, c, d) => place_swap(old, len, a, b, c, d, new),
+        Asked::Order(start, end) => place_order(old, len, start, end, list, new),
     }
-    if len < b {
-        return false;
-    }
-    if len - (b - a) < d {
-        return false;
-    }
-    reroute::sublist_change(old, len, a, b, d, new);
-    true
 }
 
-fn place_one(old: &[u16], len: usize, source: u32, dest: u32, new: &mut [u16]) -> bool
-    requires { ⌜ (length (now old) ≡ 1024) × (length (now new) ≡ 1024) × (len ≤ 1024) ⌝ }
-    ensures { λ r. ⌜ Places (list-change source dest) len (now (old .entry)) r (now (new .exit)) ⌝ }
+// What every move does.
+fn answer(
+    base: &[u32],
+    spans: &[u64],
+    edges: &[u16],
+    routes: &[u16],
+    times: &[u64],
+    owner: Owner,
+    asked: Asked,
+    list: &[u32],
+    out: &mut [u32],
+) -> Moved
+    ensures { λ r. ⌜ Promise (to-move (owner .0) (moveOf asked (now (list .entry))) (length (now (out .entry))))
+        (slices (now (base .entry)) (now (spans .entry)) (now (edges .entry)) (now (routes .entry)) (now (times .entry)))
+        (slices (now (base .entry)) (now (spans .entry)) (now (edges .entry)) (now (routes .entry)) (now (times .entry)))
+        (now (out .entry)) (now (out .exit)) (saysMoved (now (out .exit)) r) ⌝ }
 {
-    let s = broad(source);
-    let d = broad(dest);
-    if len <= s {
-        return false;
+    let mut old = [0u16; 1024];
+    let mut new = [0u16; 1024];
+    match begin(base, spans, edges, routes, times, owner, &mut old) {
+        Begun::Refused(r) => Moved::Refused(r),
+        Begun::Is(plan, len) => {
+            if !place(asked, list, &old, len, &mut new) {
+                return Moved::Refused(Refusal::BadPositions);
+            }
+            finish(base, &edges[..13314], times, plan, &old, &new, len, out)
+        }
     }
-    if len < d {
-        return false;
-    }
-    if s < d {
-        reroute::sublist_change(old, len, s, s + 1, d - 1, new);
-        return true;
-    }
-    reroute::sublist_change(old, len, s, s + 1, d, new);
-    true
 }
 
-// The range from a on is the left one.
-fn place_ranges(old: &[u16], len: usize, a: u32, b: u32, c: u32, d: u32, new: &mut [u16]) -> bool
-    requires { ⌜ (length (now old) ≡ 1024) × (length (now new) ≡ 1024) × (len ≤ 1024) × (a ≤ c) ⌝ }
-    ensures { λ r. ⌜ Places (sublist-swap a b c d) len (now (old .entry)) r (now (new .exit)) ⌝ }
-{
-    let f = broad(a);
-    let g = broad(b);
-    let h = broad(c);
-    let k = broad(d);
-    if g < f {
-        return false;
-    }
-    if k < h {
-        return false;
-    }
-    if h < g {
-        return false;
-    }
-    if len < k {
-        return false;
-    }
-    reroute::sublist_swap(old, len, f, g, h, k, new);
-    true
-}
-
-fn place_swap(old: &[u16], len: usize, a: u32, b: u32, c: u32, d: u32, new: &mut [u16]) -> bool
-    requires { ⌜ (length (now old) ≡ 1024) × (length (now new) ≡ 1024) × (len ≤ 1024) ⌝ }
-    ensures { λ r. ⌜ Places (sublist-swap a b c d) len (now (old .entry)) r (now (new .exit)) ⌝ }
-{
-    if a <= c {
-        return place_ranges(old, len, a, b, c, d, new);
-    }
-    place_ranges(old, len, c, d, a, b, new)
-}
-
-fn place_order(old: &[u16], len: usize, start: u32, end: u32, list: &[u32], new: &mut [u16]) -> bool
-    requires { ⌜ (length (now old) ≡ 1024) × (length (now new) ≡ 1024) × (len ≤ 1024) ⌝ }
-    ensures { λ r. ⌜ Places (permuted start end (now (list .entry))) len (now (old .entry)) r (now (new .exit)) ⌝ }
-{
-    let a = broad(start);
-    let b = broad(end);
-    if b < a {
-        return false;
-    }
-    if len < b {
-        return false;
-    }
-    if !reroute::is_permutation(list, b - a) {
-        return false;
-    }
-    reroute::permutation(old, len, a, b, list, new);
-    true
-}
-
+// A job goes to another place of its route.
 pub fn list_change(
     base: &[u32],
     spans: &[u64],
@@ -229,19 +189,21 @@ pub fn list_change(
         (slices (now (base .entry)) (now (spans .entry)) (now (edges .entry)) (now (routes .entry)) (now (times .entry)))
         (now (out .entry)) (now (out .exit)) (saysMoved (now (out .exit)) r) ⌝ }
 {
-    let mut old = [0u16; 1024];
-    let mut new = [0u16; 1024];
-    match begin(base, spans, edges, routes, times, owner, &mut old) {
-        Begun::Refused(r) => Moved::Refused(r),
-        Begun::Is(plan, len) => {
-            if !place_one(&old, len, source, dest, &mut new) {
-                return Moved::Refused(Refusal::BadPositions);
-            }
-            finish(base, &edges[..13314], times, plan, &old, &new, len, out)
-        }
-    }
+    let none = [0u32; 1];
+    answer(
+        base,
+        spans,
+        edges,
+        routes,
+        times,
+        owner,
+        Asked::One(source, dest),
+        &none,
+        out,
+    )
 }
 
+// A part of a route goes to another place.
 pub fn sublist_change(
     base: &[u32],
     spans: &[u64],
@@ -259,19 +221,21 @@ pub fn sublist_change(
         (slices (now (base .entry)) (now (spans .entry)) (now (edges .entry)) (now (routes .entry)) (now (times .entry)))
         (now (out .entry)) (now (out .exit)) (saysMoved (now (out .exit)) r) ⌝ }
 {
-    let mut old = [0u16; 1024];
-    let mut new = [0u16; 1024];
-    match begin(base, spans, edges, routes, times, owner, &mut old) {
-        Begun::Refused(r) => Moved::Refused(r),
-        Begun::Is(plan, len) => {
-            if !place_change(&old, len, start, end, dest, &mut new) {
-                return Moved::Refused(Refusal::BadPositions);
-            }
-            finish(base, &edges[..13314], times, plan, &old, &new, len, out)
-        }
-    }
+    let none = [0u32; 1];
+    answer(
+        base,
+        spans,
+        edges,
+        routes,
+        times,
+        owner,
+        Asked::Range(start, end, dest),
+        &none,
+        out,
+    )
 }
 
+// Two parts of a route change places.
 pub fn sublist_swap(
     base: &[u32],
     spans: &[u64],
@@ -290,19 +254,21 @@ pub fn sublist_swap(
         (slices (now (base .entry)) (now (spans .entry)) (now (edges .entry)) (now (routes .entry)) (now (times .entry)))
         (now (out .entry)) (now (out .exit)) (saysMoved (now (out .exit)) r) ⌝ }
 {
-    let mut old = [0u16; 1024];
-    let mut new = [0u16; 1024];
-    match begin(base, spans, edges, routes, times, owner, &mut old) {
-        Begun::Refused(r) => Moved::Refused(r),
-        Begun::Is(plan, len) => {
-            if !place_swap(&old, len, a, b, c, d, &mut new) {
-                return Moved::Refused(Refusal::BadPositions);
-            }
-            finish(base, &edges[..13314], times, plan, &old, &new, len, out)
-        }
-    }
+    let none = [0u32; 1];
+    answer(
+        base,
+        spans,
+        edges,
+        routes,
+        times,
+        owner,
+        Asked::Swap(a, b, c, d),
+        &none,
+        out,
+    )
 }
 
+// A part of a route in another order.
 pub fn permutation(
     base: &[u32],
     spans: &[u64],
@@ -320,15 +286,15 @@ pub fn permutation(
         (slices (now (base .entry)) (now (spans .entry)) (now (edges .entry)) (now (routes .entry)) (now (times .entry)))
         (now (out .entry)) (now (out .exit)) (saysMoved (now (out .exit)) r) ⌝ }
 {
-    let mut old = [0u16; 1024];
-    let mut new = [0u16; 1024];
-    match begin(base, spans, edges, routes, times, owner, &mut old) {
-        Begun::Refused(r) => Moved::Refused(r),
-        Begun::Is(plan, len) => {
-            if !place_order(&old, len, start, end, list, &mut new) {
-                return Moved::Refused(Refusal::BadPositions);
-            }
-            finish(base, &edges[..13314], times, plan, &old, &new, len, out)
-        }
-    }
+    answer(
+        base,
+        spans,
+        edges,
+        routes,
+        times,
+        owner,
+        Asked::Order(start, end),
+        list,
+        out,
+    )
 }

@@ -9,7 +9,7 @@ use Rattle.rules.specs.Calls.{Ask, to-retract, to-put, to-score, to-blocks}
 use Rattle.text.specs.declared.words.Word.{Word}
 use Rattle.text.specs.declared.words.Word.the-variants.{Put, Cut, Show, Crit}
 use Rattle.text.specs.Writes.{Wrote}
-use Rattle.loads.specs.Loads.{loading}
+use Rattle.refresh.specs.Loads.{loading}
 use Rattle.stores.specs.Promise.{Slices}
 use Rattle.says.specs.Prints.{badLine}
 use Rattle.opens.specs.Lines.{Leads}

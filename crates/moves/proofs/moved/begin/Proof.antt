@@ -9,18 +9,6 @@ use borrow.Author.Needs.{needs}
 use Rattle.moves.proofs.moved.begin.Statement.{statement}
 use Rattle.moves.proofs.moved.begin.Tie as tie
 
-opened-requires : tie.Need-opened-requires
-opened-requires c κs = search needs
-
-enum-known-r : tie.Need-enum-known-r
-enum-known-r c = search needs
-
-enum-known-plan : tie.Need-enum-known-plan
-enum-known-plan c = search needs
-
-has-owner-requires : tie.Need-has-owner-requires
-has-owner-requires c κs = search needs
-
 returns : tie.Need-returns
 returns c =
     let the-opened = c .before .before .before .before .before .opened in
@@ -28,9 +16,6 @@ returns c =
     let the-has-owner = c .before .has-owner in
     let the-if1 = c .if1 in
     begins-nobody _ _ (the-opened .ensures) (the-plan .given .1) (the-has-owner .ensures) (not-true _ (the-if1 .taken))
-
-broad-requires : tie.Need-broad-requires
-broad-requires c κs = search needs
 
 slice-aggregate-route-of : tie.Need-slice-aggregate-route-of
 slice-aggregate-route-of c =
@@ -54,23 +39,11 @@ route-of-requires c κs =
           (o .owners),
     )
 
-enum-told : tie.Need-enum-told
-enum-told c = search needs
-
-enum-told-2 : tie.Need-enum-told-2
-enum-told-2 c = search needs
-
-enum-known-len : tie.Need-enum-known-len
-enum-known-len c = search needs
-
 returns-2 : tie.Need-returns-2
 returns-2 c =
     let the-opened = c .before .before .before .opened in
     let the-r = c .before .r in
     begins-closed _ _ (the-opened .ensures) (the-r .given .1)
-
-same-length : tie.Need-same-length
-same-length c = search needs
 
 returns-3 : tie.Need-returns-3
 returns-3 c =
@@ -85,9 +58,6 @@ returns-3 c =
     begins-bad _ _ (the-opened .ensures) (the-plan .given .1) (the-has-owner .ensures) (not-false _ (the-if1 .left)) (o .owners) (the-broad
     .ensures) (the-route-of .ensures) (the-enum-told .given .1)
 
-same-length-2 : tie.Need-same-length-2
-same-length-2 c = search needs
-
 returns-4 : tie.Need-returns-4
 returns-4 c =
     let the-opened = c .before .before .before .before .before .before .before .before .before .before .before .before .before .opened in
@@ -100,9 +70,6 @@ returns-4 c =
     let o = open-is _ _ _ (sym (the-opened .ensures) ∙ the-plan .given .1) in
     begins-broken _ _ (the-opened .ensures) (the-plan .given .1) (the-has-owner .ensures) (not-false _ (the-if1 .left)) (o .owners)
     (the-broad .ensures) (the-route-of .ensures) (the-enum-told2 .given .1)
-
-same-length-3 : tie.Need-same-length-3
-same-length-3 c = search needs
 
 returns-5 : tie.Need-returns-5
 returns-5 c =
@@ -121,21 +88,21 @@ pub begin-spec : {M : Type 1} → statement M
 begin-spec =
     tie.close
     (tie.spec
-    opened-requires
-    enum-known-r
-    enum-known-plan
-    has-owner-requires
+    (λ c κs. search needs)
+    (λ c. search needs)
+    (λ c. search needs)
+    (λ c κs. search needs)
     returns
-    broad-requires
+    (λ c κs. search needs)
     slice-aggregate-route-of
     route-of-requires
-    enum-told
-    enum-told-2
-    enum-known-len
+    (λ c. search needs)
+    (λ c. search needs)
+    (λ c. search needs)
     returns-2
-    same-length
+    (λ c. search needs)
     returns-3
-    same-length-2
+    (λ c. search needs)
     returns-4
-    same-length-3
+    (λ c. search needs)
     returns-5)

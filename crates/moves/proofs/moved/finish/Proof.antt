@@ -9,12 +9,6 @@ returns c =
     let the-if1 = c .if1 in
     finish-few (the-if1 .taken)
 
-judge-requires : tie.Need-judge-requires
-judge-requires c κs = search needs
-
-same-length : tie.Need-same-length
-same-length c = search needs
-
 returns-2 : tie.Need-returns-2
 returns-2 c =
     let the-if1 = c .before .before .before .before .if1 in
@@ -22,4 +16,4 @@ returns-2 c =
     finish-judged (the-if1 .left) (the-judge .ensures)
 
 pub finish-spec : {M : Type 1} → statement M
-finish-spec = tie.close (tie.spec returns judge-requires same-length returns-2)
+finish-spec = tie.close (tie.spec returns (λ c κs. search needs) (λ c. search needs) returns-2)

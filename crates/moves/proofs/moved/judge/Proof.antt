@@ -7,15 +7,6 @@ use borrow.Author.Needs.{needs}
 use Rattle.moves.proofs.moved.judge.Statement.{statement}
 use Rattle.moves.proofs.moved.judge.Tie as tie
 
-broad-requires : tie.Need-broad-requires
-broad-requires c κs = search needs
-
-broad-requires-2 : tie.Need-broad-requires-2
-broad-requires-2 c κs = search needs
-
-are-jobs-requires : tie.Need-are-jobs-requires
-are-jobs-requires c κs = search needs
-
 returns : tie.Need-returns
 returns c =
     let the-broad = c .before .before .before .broad in
@@ -23,18 +14,12 @@ returns c =
     let the-if1 = c .if1 in
     judge-old (the-broad .ensures) (the-are-jobs .ensures) (not-true _ (the-if1 .taken))
 
-are-jobs-requires-2 : tie.Need-are-jobs-requires-2
-are-jobs-requires-2 c κs = search needs
-
 returns-2 : tie.Need-returns-2
 returns-2 c =
     let the-broad = c .before .before .before .before .before .broad in
     let the-are-jobs2 = c .before .are-jobs2 in
     let the-if2 = c .if2 in
     judge-new (the-broad .ensures) (the-are-jobs2 .ensures) (not-true _ (the-if2 .taken))
-
-shared-slice-read-check : tie.Need-shared-slice-read-check
-shared-slice-read-check c = search needs
 
 check-requires : tie.Need-check-requires
 check-requires c κs =
@@ -62,12 +47,6 @@ check-requires c κs =
       sym (the-are-jobs2 .ensures) ∙ not-false _ (the-if2 .left),
     )
 
-enum-told : tie.Need-enum-told
-enum-told c = search needs
-
-enum-known-q : tie.Need-enum-known-q
-enum-known-q c = search needs
-
 show-requires : tie.Need-show-requires
 show-requires c κs =
     let start = c .before .before .before .before .before .before .before .before .before .before .before .before .before .before .before
@@ -81,9 +60,6 @@ returns-3 c =
     let the-check = c .before .before .check in
     let the-enum-told = c .enum-told in
     judge-bad (the-broad .ensures) (the-broad2 .ensures) refl (the-check .ensures) (the-enum-told .given .1)
-
-same-length : tie.Need-same-length
-same-length c = search needs
 
 returns-4 : tie.Need-returns-4
 returns-4 c =
@@ -102,17 +78,17 @@ pub judge-spec : {M : Type 1} → statement M
 judge-spec =
     tie.close
     (tie.spec
-    broad-requires
-    broad-requires-2
-    are-jobs-requires
+    (λ c κs. search needs)
+    (λ c κs. search needs)
+    (λ c κs. search needs)
     returns
-    are-jobs-requires-2
+    (λ c κs. search needs)
     returns-2
-    shared-slice-read-check
+    (λ c. search needs)
     check-requires
-    enum-told
-    enum-known-q
+    (λ c. search needs)
+    (λ c. search needs)
     show-requires
     returns-3
-    same-length
+    (λ c. search needs)
     returns-4)

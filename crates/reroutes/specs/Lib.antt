@@ -1,3 +1,0 @@
--- What the contracts of `reroutes` cite. Assumes nothing.
-pub mod Pieces
-pub mod Stopping
