@@ -10,8 +10,6 @@ static notekarip_store store;
 static int64_t nums[NOTEKARIP_NUMS];
 static uint64_t told[NOTEKARIP_TOLD];
 
-#define NUMBERS nums, NOTEKARIP_NUMS, told, NOTEKARIP_TOLD
-
 /* A change of score, or the refusal's number. */
 static void changed(uint32_t answer)
 {
@@ -23,13 +21,13 @@ static void changed(uint32_t answer)
 
 static void put(uint32_t owner, const uint32_t *entries, size_t count)
 {
-    changed(notekarip_put(NOTEKARIP_STORE(&store), owner, entries, count, NUMBERS));
+    changed(notekarip_put(NOTEKARIP_STORE(&store), owner, entries, count, nums, told));
 }
 
 static void show_starts(void)
 {
     uint64_t starts[JOBS];
-    uint32_t answer = notekarip_starts(NOTEKARIP_STORE(&store), starts, JOBS, NUMBERS);
+    uint32_t answer = notekarip_starts(NOTEKARIP_STORE(&store), starts, JOBS, told);
     if (answer != NOTEKARIP_ACCEPTED) {
         changed(answer);
         return;
@@ -44,10 +42,10 @@ static void show_starts(void)
 static void show(void)
 {
     uint32_t jobs[JOBS];
-    uint32_t answer = notekarip_score(NOTEKARIP_STORE(&store), NUMBERS);
+    uint32_t answer = notekarip_score(NOTEKARIP_STORE(&store), nums, told);
     if (answer == NOTEKARIP_ACCEPTED) {
         printf("score %" PRId64 " %" PRId64 "\n", nums[0], nums[1]);
-        answer = notekarip_verdict(NOTEKARIP_STORE(&store), jobs, JOBS, NUMBERS);
+        answer = notekarip_verdict(NOTEKARIP_STORE(&store), jobs, JOBS, told);
     }
     if (answer != NOTEKARIP_ACCEPTED) {
         changed(answer);
@@ -68,7 +66,7 @@ static void crit(void)
 {
     static const uint32_t all[OWNERS] = {0};
     notekarip_block blocks[JOBS];
-    uint32_t answer = notekarip_blocks(NOTEKARIP_STORE(&store), all, OWNERS, blocks, JOBS, NUMBERS);
+    uint32_t answer = notekarip_blocks(NOTEKARIP_STORE(&store), all, OWNERS, blocks, JOBS, told);
     if (answer != NOTEKARIP_ACCEPTED) {
         changed(answer);
         return;
@@ -88,13 +86,13 @@ int main(void)
     static const uint32_t four[] = {2, 3, 0, 1};
     static const uint32_t nobody[] = {NOTEKARIP_NOBODY}; /* an address for tables of no places */
 
-    changed(notekarip_load(NOTEKARIP_STORE(&store), JOBS, OWNERS, durations, JOBS, nobody, 0, from, 1, to, 1, NUMBERS));
+    changed(notekarip_load(NOTEKARIP_STORE(&store), JOBS, OWNERS, durations, JOBS, nobody, 0, from, 1, to, 1, nums));
     put(0, two, 2);
     crit();
     put(0, four, 4);
     show();
     put(0, nobody, 0);
     show();
-    changed(notekarip_retract(NOTEKARIP_STORE(&store), 5, NUMBERS));
+    changed(notekarip_retract(NOTEKARIP_STORE(&store), 5, nums));
     return 0;
 }

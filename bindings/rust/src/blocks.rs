@@ -3,8 +3,8 @@
 use crate::answer::Block;
 use crate::calls;
 use crate::refusal::Refusal;
-use crate::sizes::ENTRIES;
-use crate::store::{numbers, Store};
+use crate::sizes::{ENTRIES, TOLD};
+use crate::store::Store;
 
 impl Store {
     /// The critical blocks of these owners, in their order; none while cyclic.
@@ -39,7 +39,7 @@ impl Store {
 
     /// The same into a lent list with a place for each block; answers how many.
     pub fn blocks_into(&self, owners: &[u32], out: &mut [Block]) -> Result<usize, Refusal> {
-        let (mut nums, mut told) = numbers();
+        let mut told = [0; TOLD];
         let code = calls::blocks(
             &self.base,
             &self.spans,
@@ -48,7 +48,6 @@ impl Store {
             &self.times,
             owners,
             out,
-            &mut nums,
             &mut told,
         );
         Refusal::check(code)?;

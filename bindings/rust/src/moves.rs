@@ -3,8 +3,8 @@
 use crate::answer::{Checks, Moved};
 use crate::calls;
 use crate::refusal::Refusal;
-use crate::sizes::ENTRIES;
-use crate::store::{numbers, Owner, Store};
+use crate::sizes::{ENTRIES, TOLD};
+use crate::store::{Owner, Store};
 
 /// A move within a route; positions as document 01 names them.
 #[derive(Clone, Copy, Debug, PartialEq, Eq, Hash)]
@@ -61,26 +61,24 @@ impl Store {
         step: Move<'_>,
         out: &mut [u32],
     ) -> Result<Checks, Refusal> {
-        let (mut nums, mut told) = numbers();
+        let mut told = [0; TOLD];
         let (base, spans, edges) = (&self.base, &self.spans, &self.edges);
         let (routes, times) = (&self.routes, &self.times);
         let code = match step {
             Move::ListChange { source, dest } => calls::list_change(
-                base, spans, edges, routes, times, owner.0, source, dest, out, &mut nums, &mut told,
+                base, spans, edges, routes, times, owner.0, source, dest, out, &mut told,
             ),
             Move::SublistChange { start, end, dest } => calls::sublist_change(
-                base, spans, edges, routes, times, owner.0, start, end, dest, out, &mut nums,
-                &mut told,
+                base, spans, edges, routes, times, owner.0, start, end, dest, out, &mut told,
             ),
             Move::SublistSwap {
                 first: (a, b),
                 second: (c, d),
             } => calls::sublist_swap(
-                base, spans, edges, routes, times, owner.0, a, b, c, d, out, &mut nums, &mut told,
+                base, spans, edges, routes, times, owner.0, a, b, c, d, out, &mut told,
             ),
             Move::Permutation { start, end, list } => calls::permutation(
-                base, spans, edges, routes, times, owner.0, start, end, list, out, &mut nums,
-                &mut told,
+                base, spans, edges, routes, times, owner.0, start, end, list, out, &mut told,
             ),
         };
         Refusal::check(code)?;

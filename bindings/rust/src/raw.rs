@@ -1,7 +1,9 @@
-//! The C functions of libcapi.a. A slice is its address, never null, and its number of places.
+//! The C functions of libcapi.a. A slice is its address, never null, and its number of places; an
+//! array of fixed length is its address alone.
 
 #[cfg(feature = "blocks")]
 use crate::answer::Block;
+use crate::sizes::{NUMS, TOLD};
 
 extern "C" {
     pub fn notekarip_load(
@@ -25,10 +27,7 @@ extern "C" {
         from_len: usize,
         to: *const u32,
         to_len: usize,
-        nums: *mut i64,
-        nums_len: usize,
-        told: *mut u64,
-        told_len: usize,
+        nums: *mut [i64; NUMS],
     ) -> u32;
 
     pub fn notekarip_reset(
@@ -42,10 +41,7 @@ extern "C" {
         routes_len: usize,
         times: *const u64,
         times_len: usize,
-        nums: *mut i64,
-        nums_len: usize,
-        told: *mut u64,
-        told_len: usize,
+        nums: *mut [i64; NUMS],
     ) -> u32;
 
     pub fn notekarip_retract(
@@ -60,10 +56,7 @@ extern "C" {
         times: *const u64,
         times_len: usize,
         owner: u32,
-        nums: *mut i64,
-        nums_len: usize,
-        told: *mut u64,
-        told_len: usize,
+        nums: *mut [i64; NUMS],
     ) -> u32;
 
     pub fn notekarip_put(
@@ -80,10 +73,8 @@ extern "C" {
         owner: u32,
         entries: *const u32,
         entries_len: usize,
-        nums: *mut i64,
-        nums_len: usize,
-        told: *mut u64,
-        told_len: usize,
+        nums: *mut [i64; NUMS],
+        told: *mut [u64; TOLD],
     ) -> u32;
 
     pub fn notekarip_score(
@@ -97,10 +88,8 @@ extern "C" {
         routes_len: usize,
         times: *const u64,
         times_len: usize,
-        nums: *mut i64,
-        nums_len: usize,
-        told: *mut u64,
-        told_len: usize,
+        nums: *mut [i64; NUMS],
+        told: *mut [u64; TOLD],
     ) -> u32;
 
     pub fn notekarip_verdict(
@@ -116,10 +105,7 @@ extern "C" {
         times_len: usize,
         out: *mut u32,
         out_len: usize,
-        nums: *mut i64,
-        nums_len: usize,
-        told: *mut u64,
-        told_len: usize,
+        told: *mut [u64; TOLD],
     ) -> u32;
 
     pub fn notekarip_starts(
@@ -135,10 +121,7 @@ extern "C" {
         times_len: usize,
         out: *mut u64,
         out_len: usize,
-        nums: *mut i64,
-        nums_len: usize,
-        told: *mut u64,
-        told_len: usize,
+        told: *mut [u64; TOLD],
     ) -> u32;
 
     #[cfg(feature = "moves")]
@@ -158,10 +141,7 @@ extern "C" {
         dest: u32,
         out: *mut u32,
         out_len: usize,
-        nums: *mut i64,
-        nums_len: usize,
-        told: *mut u64,
-        told_len: usize,
+        told: *mut [u64; TOLD],
     ) -> u32;
 
     #[cfg(feature = "moves")]
@@ -182,10 +162,7 @@ extern "C" {
         dest: u32,
         out: *mut u32,
         out_len: usize,
-        nums: *mut i64,
-        nums_len: usize,
-        told: *mut u64,
-        told_len: usize,
+        told: *mut [u64; TOLD],
     ) -> u32;
 
     #[cfg(feature = "moves")]
@@ -207,10 +184,7 @@ extern "C" {
         d: u32,
         out: *mut u32,
         out_len: usize,
-        nums: *mut i64,
-        nums_len: usize,
-        told: *mut u64,
-        told_len: usize,
+        told: *mut [u64; TOLD],
     ) -> u32;
 
     #[cfg(feature = "moves")]
@@ -232,10 +206,7 @@ extern "C" {
         list_len: usize,
         out: *mut u32,
         out_len: usize,
-        nums: *mut i64,
-        nums_len: usize,
-        told: *mut u64,
-        told_len: usize,
+        told: *mut [u64; TOLD],
     ) -> u32;
 
     #[cfg(feature = "blocks")]
@@ -254,9 +225,6 @@ extern "C" {
         owners_len: usize,
         out: *mut Block,
         out_len: usize,
-        nums: *mut i64,
-        nums_len: usize,
-        told: *mut u64,
-        told_len: usize,
+        told: *mut [u64; TOLD],
     ) -> u32;
 }

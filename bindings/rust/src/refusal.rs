@@ -65,7 +65,7 @@ impl Refusal {
     ///
     /// # Panics
     ///
-    /// On a code above 12: a call gives none, if it is lent room for its numbers.
+    /// On a code above 12: a call gives none.
     pub fn check(code: u32) -> Result<(), Refusal> {
         match code.checked_sub(1) {
             None => Ok(()),

@@ -24,7 +24,7 @@ pub const ROUTES: usize = 1_794;
 /// Words of `times`.
 pub const TIMES: usize = 514;
 
-/// Places for a score in `nums` of the [`calls`](crate::calls).
+/// Places of `nums`, for a score, in the [`calls`](crate::calls).
 pub const NUMS: usize = 2;
-/// Places for what else is told, in `told` of the [`calls`](crate::calls).
+/// Places of `told`, for what else is told, in the [`calls`](crate::calls).
 pub const TOLD: usize = 3;

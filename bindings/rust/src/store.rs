@@ -64,7 +64,7 @@ impl Store {
     /// assert_eq!(store.load(&Load { jobs: 2, ..one }), Err(Refusal::Size));
     /// ```
     pub fn load(&mut self, load: &Load<'_>) -> Result<Score, Refusal> {
-        let (mut nums, mut told) = numbers();
+        let mut nums = [0; NUMS];
         let code = calls::load(
             &mut self.base,
             &mut self.spans,
@@ -78,7 +78,6 @@ impl Store {
             load.from,
             load.to,
             &mut nums,
-            &mut told,
         );
         Refusal::check(code)?;
         Ok(Score::of(nums))
@@ -86,7 +85,7 @@ impl Store {
 
     /// Not loaded any more; a store of this type is never refused it.
     pub fn reset(&mut self) -> Result<(), Refusal> {
-        let (mut nums, mut told) = numbers();
+        let mut nums = [0; NUMS];
         Refusal::check(calls::reset(
             &mut self.base,
             &self.spans,
@@ -94,13 +93,12 @@ impl Store {
             &self.routes,
             &self.times,
             &mut nums,
-            &mut told,
         ))
     }
 
     /// The owner waits: its route stays in force until the next put.
     pub fn retract(&mut self, owner: Owner) -> Result<(), Refusal> {
-        let (mut nums, mut told) = numbers();
+        let mut nums = [0; NUMS];
         Refusal::check(calls::retract(
             &self.base,
             &self.spans,
@@ -109,7 +107,6 @@ impl Store {
             &self.times,
             owner.0,
             &mut nums,
-            &mut told,
         ))
     }
 
@@ -128,7 +125,8 @@ impl Store {
     /// # Ok::<(), notekarip::Refusal>(())
     /// ```
     pub fn put(&mut self, owner: Owner, entries: &[u32]) -> Result<(Score, Report), Refusal> {
-        let (mut nums, mut told) = numbers();
+        let mut nums = [0; NUMS];
+        let mut told = [0; TOLD];
         let code = calls::put(
             &self.base,
             &self.spans,
@@ -146,7 +144,8 @@ impl Store {
 
     /// The score and the match count.
     pub fn score(&self) -> Result<(Score, u64), Refusal> {
-        let (mut nums, mut told) = numbers();
+        let mut nums = [0; NUMS];
+        let mut told = [0; TOLD];
         let code = calls::score(
             &self.base,
             &self.spans,
@@ -174,7 +173,7 @@ impl Store {
 
     /// The same into a lent buffer of n places or more; those beyond the answer stay.
     pub fn verdict_into(&self, out: &mut [u32]) -> Result<Shown, Refusal> {
-        let (mut nums, mut told) = numbers();
+        let mut told = [0; TOLD];
         let code = calls::verdict(
             &self.base,
             &self.spans,
@@ -182,7 +181,6 @@ impl Store {
             &self.routes,
             &self.times,
             out,
-            &mut nums,
             &mut told,
         );
         Refusal::check(code)?;
@@ -199,7 +197,7 @@ impl Store {
 
     /// The same into a lent buffer of n places or more; answers n.
     pub fn starts_into(&self, out: &mut [u64]) -> Result<usize, Refusal> {
-        let (mut nums, mut told) = numbers();
+        let mut told = [0; TOLD];
         let code = calls::starts(
             &self.base,
             &self.spans,
@@ -207,15 +205,9 @@ impl Store {
             &self.routes,
             &self.times,
             out,
-            &mut nums,
             &mut told,
         );
         Refusal::check(code)?;
         Ok(told[0] as usize)
     }
-}
-
-/// Room for the numbers of an answer.
-pub(crate) fn numbers() -> ([i64; NUMS], [u64; TOLD]) {
-    ([0; NUMS], [0; TOLD])
 }

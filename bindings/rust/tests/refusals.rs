@@ -99,15 +99,14 @@ fn slices_of_the_callers_own() {
     let mut base = vec![7; sizes::BASE + 1];
     let (spans, edges) = ([7; sizes::SPANS], [7; sizes::EDGES]);
     let (routes, times) = ([7; sizes::ROUTES], [7; sizes::TIMES]);
-    let reset = |base: &mut [u32], places: usize| {
-        let (mut nums, mut told) = ([7; 2], [7; 3]);
-        let nums = &mut nums[..places];
-        calls::reset(base, &spans, &edges, &routes, &times, nums, &mut told)
+    let reset = |base: &mut [u32]| {
+        let mut nums = [7; 2];
+        let code = calls::reset(base, &spans, &edges, &routes, &times, &mut nums);
+        (code, nums)
     };
-    assert_eq!(reset(&mut base, 1), 13);
-    assert_eq!(reset(&mut base[..sizes::BASE - 1], 2), 9);
+    assert_eq!(reset(&mut base[..sizes::BASE - 1]), (9, [0; 2]));
     assert_eq!(base, [7; sizes::BASE + 1]);
-    assert_eq!(reset(&mut base, 2), 0);
+    assert_eq!(reset(&mut base), (0, [0; 2]));
     assert_eq!((base[0], &base[1..]), (0, &[7; sizes::BASE][..]));
 }
 
@@ -119,6 +118,7 @@ fn a_store_that_no_calls_left() {
     let base = [2; sizes::BASE];
     let code = calls::score(&base, &spans, &edges, &routes, &times, &mut nums, &mut told);
     assert_eq!(Refusal::check(code), Err(Refusal::BadStore));
+    assert_eq!((nums, told), ([0; 2], [7; 3]));
 }
 
 #[test]

@@ -1,1 +1,3 @@
 -- Laws that belong to no one function. Assumes nothing.
+pub mod Answering
+pub mod Unique

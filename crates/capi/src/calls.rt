@@ -1,31 +1,26 @@
-// The calls of layer 3. Each asks for room for the numbers first (13), then hands everything on.
+// The calls of layer 3. Each hands everything on, and tells what is answered in numbers.
+use crate::numbers::NUMS;
+use crate::numbers::TOLD;
+use crate::numbers::changed;
+use crate::numbers::counted;
+use crate::numbers::ended;
+use crate::numbers::judged;
+use crate::numbers::scored;
+use crate::numbers::started;
 use refresh::load::load;
-use refresh::put::Changed;
 use refresh::put::put;
-use refresh::reset::Ended;
 use refresh::reset::reset;
 use refresh::retract::retract;
-use refresh::score::Counted;
-use refresh::score::Scored;
 use refresh::score::score;
-use refresh::starts::Started;
 use refresh::starts::starts;
-use refresh::verdict::Judged;
 use refresh::verdict::verdict;
 use rules::Owner;
-use tells::numbers::code;
-use tells::numbers::lacks_room;
-use tells::numbers::tell;
-use tells::numbers::tell_report;
-use tells::numbers::tell_two;
-use tells::numbers::write;
-use tells::numbers::zero;
 ghost use mathlib.Core.List.{[]};
 ghost use lib.ListN.{length};
 ghost use Rattle.rules.specs.Calls.{to-load, to-reset, to-retract, to-put, to-score, to-verdict, to-starts};
 ghost use Rattle.refresh.specs.Loads.{loading};
 ghost use Rattle.stores.specs.Promise.{slices};
-ghost use Rattle.tells.specs.Numbers.{Answers};
+ghost use Rattle.capi.specs.Numbers.{Answers};
 
 // A plan, in place of what the store held.
 #[no_mangle]
@@ -41,36 +36,29 @@ pub extern "C" fn notekarip_load(
     expected: &[u32],
     from: &[u32],
     to: &[u32],
-    nums: &mut [i64],
-    told: &mut [u64],
+    nums: &mut [i64; NUMS],
 ) -> u32
     ensures { λ c. ⌜ Answers (to-load (loading jobs owners (now (durations .entry)) (now (expected .entry)) (now (from .entry)) (now (to .entry))))
         (slices (now (base .entry)) (now (spans .entry)) (now (edges .entry)) (now (routes .entry)) (now (times .entry)))
         (slices (now (base .exit)) (now (spans .exit)) (now (edges .exit)) (now (routes .exit)) (now (times .exit)))
-        [] [] (now (nums .entry)) (now (nums .exit)) (now (told .entry)) (now (told .exit)) c ⌝ }
+        [] [] (now (nums .entry)) (now (nums .exit)) [] [] c ⌝ }
 {
-    if lacks_room(nums.len(), told.len()) {
-        return 13;
-    }
-    match load(
-        base,
-        spans,
-        edges,
-        routes,
-        times,
-        jobs,
-        owners,
-        durations,
-        expected,
-        from,
-        to,
-    ) {
-        Scored::Refused(r) => code(r),
-        Scored::Is(s) => {
-            write(nums, s);
-            0
-        }
-    }
+    scored(
+        load(
+            base,
+            spans,
+            edges,
+            routes,
+            times,
+            jobs,
+            owners,
+            durations,
+            expected,
+            from,
+            to,
+        ),
+        nums,
+    )
 }
 
 // The store is not loaded any more.
@@ -81,21 +69,14 @@ pub extern "C" fn notekarip_reset(
     edges: &[u16],
     routes: &[u16],
     times: &[u64],
-    nums: &mut [i64],
-    told: &mut [u64],
+    nums: &mut [i64; NUMS],
 ) -> u32
     ensures { λ c. ⌜ Answers to-reset
         (slices (now (base .entry)) (now (spans .entry)) (now (edges .entry)) (now (routes .entry)) (now (times .entry)))
         (slices (now (base .exit)) (now (spans .entry)) (now (edges .entry)) (now (routes .entry)) (now (times .entry)))
-        [] [] (now (nums .entry)) (now (nums .exit)) (now (told .entry)) (now (told .exit)) c ⌝ }
+        [] [] (now (nums .entry)) (now (nums .exit)) [] [] c ⌝ }
 {
-    if lacks_room(nums.len(), told.len()) {
-        return 13;
-    }
-    match reset(base, spans, edges, routes, times) {
-        Ended::Refused(r) => code(r),
-        Ended::Fine => zero(nums),
-    }
+    ended(reset(base, spans, edges, routes, times), nums)
 }
 
 // An owner waits.
@@ -107,21 +88,17 @@ pub extern "C" fn notekarip_retract(
     routes: &mut [u16],
     times: &[u64],
     owner: u32,
-    nums: &mut [i64],
-    told: &mut [u64],
+    nums: &mut [i64; NUMS],
 ) -> u32
     ensures { λ c. ⌜ Answers (to-retract owner)
         (slices (now (base .entry)) (now (spans .entry)) (now (edges .entry)) (now (routes .entry)) (now (times .entry)))
         (slices (now (base .entry)) (now (spans .entry)) (now (edges .entry)) (now (routes .exit)) (now (times .entry)))
-        [] [] (now (nums .entry)) (now (nums .exit)) (now (told .entry)) (now (told .exit)) c ⌝ }
+        [] [] (now (nums .entry)) (now (nums .exit)) [] [] c ⌝ }
 {
-    if lacks_room(nums.len(), told.len()) {
-        return 13;
-    }
-    match retract(base, spans, edges, routes, times, Owner(owner)) {
-        Ended::Refused(r) => code(r),
-        Ended::Fine => zero(nums),
-    }
+    ended(
+        retract(base, spans, edges, routes, times, Owner(owner)),
+        nums,
+    )
 }
 
 // An owner's route, in place of the one in force.
@@ -134,24 +111,19 @@ pub extern "C" fn notekarip_put(
     times: &mut [u64],
     owner: u32,
     entries: &[u32],
-    nums: &mut [i64],
-    told: &mut [u64],
+    nums: &mut [i64; NUMS],
+    told: &mut [u64; TOLD],
 ) -> u32
     ensures { λ c. ⌜ Answers (to-put owner (now (entries .entry)))
         (slices (now (base .entry)) (now (spans .entry)) (now (edges .entry)) (now (routes .entry)) (now (times .entry)))
         (slices (now (base .entry)) (now (spans .entry)) (now (edges .exit)) (now (routes .exit)) (now (times .exit)))
         [] [] (now (nums .entry)) (now (nums .exit)) (now (told .entry)) (now (told .exit)) c ⌝ }
 {
-    if lacks_room(nums.len(), told.len()) {
-        return 13;
-    }
-    match put(base, spans, edges, routes, times, Owner(owner), entries) {
-        Changed::Refused(r) => code(r),
-        Changed::By(s, report) => {
-            write(nums, s);
-            tell_report(told, report)
-        }
-    }
+    changed(
+        put(base, spans, edges, routes, times, Owner(owner), entries),
+        nums,
+        told,
+    )
 }
 
 // Score and match count.
@@ -162,24 +134,15 @@ pub extern "C" fn notekarip_score(
     edges: &[u16],
     routes: &[u16],
     times: &[u64],
-    nums: &mut [i64],
-    told: &mut [u64],
+    nums: &mut [i64; NUMS],
+    told: &mut [u64; TOLD],
 ) -> u32
     ensures { λ c. ⌜ Answers to-score
         (slices (now (base .entry)) (now (spans .entry)) (now (edges .entry)) (now (routes .entry)) (now (times .entry)))
         (slices (now (base .entry)) (now (spans .entry)) (now (edges .entry)) (now (routes .entry)) (now (times .entry)))
         [] [] (now (nums .entry)) (now (nums .exit)) (now (told .entry)) (now (told .exit)) c ⌝ }
 {
-    if lacks_room(nums.len(), told.len()) {
-        return 13;
-    }
-    match score(base, spans, edges, routes, times) {
-        Counted::Refused(r) => code(r),
-        Counted::Is(s, k) => {
-            write(nums, s);
-            tell(told, k)
-        }
-    }
+    counted(score(base, spans, edges, routes, times), nums, told)
 }
 
 // The shown line-up, or the shown cycle.
@@ -191,22 +154,14 @@ pub extern "C" fn notekarip_verdict(
     routes: &[u16],
     times: &[u64],
     out: &mut [u32],
-    nums: &mut [i64],
-    told: &mut [u64],
+    told: &mut [u64; TOLD],
 ) -> u32
     ensures { λ c. ⌜ Answers (to-verdict (length (now (out .entry))))
         (slices (now (base .entry)) (now (spans .entry)) (now (edges .entry)) (now (routes .entry)) (now (times .entry)))
         (slices (now (base .entry)) (now (spans .entry)) (now (edges .entry)) (now (routes .entry)) (now (times .entry)))
-        (now (out .entry)) (now (out .exit)) (now (nums .entry)) (now (nums .exit)) (now (told .entry)) (now (told .exit)) c ⌝ }
+        (now (out .entry)) (now (out .exit)) [] [] (now (told .entry)) (now (told .exit)) c ⌝ }
 {
-    if lacks_room(nums.len(), told.len()) {
-        return 13;
-    }
-    match verdict(base, spans, edges, routes, times, out) {
-        Judged::Refused(r) => code(r),
-        Judged::LineUp(k) => tell_two(told, 0, k as u64),
-        Judged::Cycle(k) => tell_two(told, 1, k as u64),
-    }
+    judged(verdict(base, spans, edges, routes, times, out), told)
 }
 
 // The starts.
@@ -218,19 +173,12 @@ pub extern "C" fn notekarip_starts(
     routes: &[u16],
     times: &[u64],
     out: &mut [u64],
-    nums: &mut [i64],
-    told: &mut [u64],
+    told: &mut [u64; TOLD],
 ) -> u32
     ensures { λ c. ⌜ Answers (to-starts (length (now (out .entry))))
         (slices (now (base .entry)) (now (spans .entry)) (now (edges .entry)) (now (routes .entry)) (now (times .entry)))
         (slices (now (base .entry)) (now (spans .entry)) (now (edges .entry)) (now (routes .entry)) (now (times .entry)))
-        (now (out .entry)) (now (out .exit)) (now (nums .entry)) (now (nums .exit)) (now (told .entry)) (now (told .exit)) c ⌝ }
+        (now (out .entry)) (now (out .exit)) [] [] (now (told .entry)) (now (told .exit)) c ⌝ }
 {
-    if lacks_room(nums.len(), told.len()) {
-        return 13;
-    }
-    match starts(base, spans, edges, routes, times, out) {
-        Started::Refused(r) => code(r),
-        Started::All(k) => tell(told, k as u64),
-    }
+    started(starts(base, spans, edges, routes, times, out), told)
 }

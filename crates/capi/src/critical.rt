@@ -1,11 +1,10 @@
-// The critical blocks. The lent list of records makes this the one call that is walked by hand, so it hands everything on: what is tested and
-// told has a function of its own.
+// The critical blocks. The lent list of records makes this the one call that is walked by hand.
+use crate::numbers::TOLD;
+use crate::numbers::blocked;
 use moves::blocks;
 use rules::Block;
-use tells::numbers::lacks_room;
-use tells::numbers::told_blocks;
 ghost use Rattle.stores.specs.Promise.{slices};
-ghost use Rattle.tells.specs.Numbers.{AnswersBlocks};
+ghost use Rattle.capi.specs.Numbers.{AnswersBlocks};
 
 // The blocks of a list of owners, as records.
 #[no_mangle]
@@ -17,17 +16,13 @@ pub extern "C" fn notekarip_blocks(
     times: &[u64],
     owners: &[u32],
     out: &mut [Block],
-    nums: &mut [i64],
-    told: &mut [u64],
+    told: &mut [u64; TOLD],
 ) -> u32
     ensures { λ c. ⌜ AnswersBlocks (now (owners .entry))
         (slices (now (base .entry)) (now (spans .entry)) (now (edges .entry)) (now (routes .entry)) (now (times .entry)))
         (slices (now (base .entry)) (now (spans .entry)) (now (edges .entry)) (now (routes .entry)) (now (times .entry)))
-        (now (out .entry)) (now (out .exit)) (now (nums .entry)) (now (nums .exit)) (now (told .entry)) (now (told .exit)) c ⌝ }
+        (now (out .entry)) (now (out .exit)) (now (told .entry)) (now (told .exit)) c ⌝ }
 {
-    if lacks_room(nums.len(), told.len()) {
-        return 13;
-    }
     let answer = blocks(base, spans, edges, routes, times, owners, out);
-    told_blocks(answer, told)
+    blocked(answer, told)
 }

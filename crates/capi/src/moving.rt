@@ -1,18 +1,17 @@
 // The moves of layer 4: the new route into `out`, both verdicts and the route's length into `told`.
-use moves::moved::Moved;
+use crate::numbers::TOLD;
+use crate::numbers::moved;
 use moves::moved::list_change;
 use moves::moved::permutation;
 use moves::moved::sublist_change;
 use moves::moved::sublist_swap;
 use rules::Owner;
-use tells::numbers::code;
-use tells::numbers::lacks_room;
-use tells::numbers::tell_move;
+ghost use mathlib.Core.List.{[]};
 ghost use lib.ListN.{length};
 ghost use Rattle.rules.specs.Calls.{to-move};
 ghost use Rattle.rules.specs.Moves.{list-change, sublist-change, sublist-swap, permutation as permuted};
 ghost use Rattle.stores.specs.Promise.{slices};
-ghost use Rattle.tells.specs.Numbers.{Answers};
+ghost use Rattle.capi.specs.Numbers.{Answers};
 
 // A job to another place of its route.
 #[no_mangle]
@@ -26,31 +25,27 @@ pub extern "C" fn notekarip_list_change(
     source: u32,
     dest: u32,
     out: &mut [u32],
-    nums: &mut [i64],
-    told: &mut [u64],
+    told: &mut [u64; TOLD],
 ) -> u32
     ensures { λ c. ⌜ Answers (to-move owner (list-change source dest) (length (now (out .entry))))
         (slices (now (base .entry)) (now (spans .entry)) (now (edges .entry)) (now (routes .entry)) (now (times .entry)))
         (slices (now (base .entry)) (now (spans .entry)) (now (edges .entry)) (now (routes .entry)) (now (times .entry)))
-        (now (out .entry)) (now (out .exit)) (now (nums .entry)) (now (nums .exit)) (now (told .entry)) (now (told .exit)) c ⌝ }
+        (now (out .entry)) (now (out .exit)) [] [] (now (told .entry)) (now (told .exit)) c ⌝ }
 {
-    if lacks_room(nums.len(), told.len()) {
-        return 13;
-    }
-    match list_change(
-        base,
-        spans,
-        edges,
-        routes,
-        times,
-        Owner(owner),
-        source,
-        dest,
-        out,
-    ) {
-        Moved::Refused(r) => code(r),
-        Moved::Is(k, quick, full) => tell_move(told, quick, full, k as u64),
-    }
+    moved(
+        list_change(
+            base,
+            spans,
+            edges,
+            routes,
+            times,
+            Owner(owner),
+            source,
+            dest,
+            out,
+        ),
+        told,
+    )
 }
 
 // A part of a route to another place.
@@ -66,32 +61,28 @@ pub extern "C" fn notekarip_sublist_change(
     end: u32,
     dest: u32,
     out: &mut [u32],
-    nums: &mut [i64],
-    told: &mut [u64],
+    told: &mut [u64; TOLD],
 ) -> u32
     ensures { λ c. ⌜ Answers (to-move owner (sublist-change start end dest) (length (now (out .entry))))
         (slices (now (base .entry)) (now (spans .entry)) (now (edges .entry)) (now (routes .entry)) (now (times .entry)))
         (slices (now (base .entry)) (now (spans .entry)) (now (edges .entry)) (now (routes .entry)) (now (times .entry)))
-        (now (out .entry)) (now (out .exit)) (now (nums .entry)) (now (nums .exit)) (now (told .entry)) (now (told .exit)) c ⌝ }
+        (now (out .entry)) (now (out .exit)) [] [] (now (told .entry)) (now (told .exit)) c ⌝ }
 {
-    if lacks_room(nums.len(), told.len()) {
-        return 13;
-    }
-    match sublist_change(
-        base,
-        spans,
-        edges,
-        routes,
-        times,
-        Owner(owner),
-        start,
-        end,
-        dest,
-        out,
-    ) {
-        Moved::Refused(r) => code(r),
-        Moved::Is(k, quick, full) => tell_move(told, quick, full, k as u64),
-    }
+    moved(
+        sublist_change(
+            base,
+            spans,
+            edges,
+            routes,
+            times,
+            Owner(owner),
+            start,
+            end,
+            dest,
+            out,
+        ),
+        told,
+    )
 }
 
 // Two parts of a route change places.
@@ -108,33 +99,29 @@ pub extern "C" fn notekarip_sublist_swap(
     c: u32,
     d: u32,
     out: &mut [u32],
-    nums: &mut [i64],
-    told: &mut [u64],
+    told: &mut [u64; TOLD],
 ) -> u32
     ensures { λ k. ⌜ Answers (to-move owner (sublist-swap a b c d) (length (now (out .entry))))
         (slices (now (base .entry)) (now (spans .entry)) (now (edges .entry)) (now (routes .entry)) (now (times .entry)))
         (slices (now (base .entry)) (now (spans .entry)) (now (edges .entry)) (now (routes .entry)) (now (times .entry)))
-        (now (out .entry)) (now (out .exit)) (now (nums .entry)) (now (nums .exit)) (now (told .entry)) (now (told .exit)) k ⌝ }
+        (now (out .entry)) (now (out .exit)) [] [] (now (told .entry)) (now (told .exit)) k ⌝ }
 {
-    if lacks_room(nums.len(), told.len()) {
-        return 13;
-    }
-    match sublist_swap(
-        base,
-        spans,
-        edges,
-        routes,
-        times,
-        Owner(owner),
-        a,
-        b,
-        c,
-        d,
-        out,
-    ) {
-        Moved::Refused(r) => code(r),
-        Moved::Is(k, quick, full) => tell_move(told, quick, full, k as u64),
-    }
+    moved(
+        sublist_swap(
+            base,
+            spans,
+            edges,
+            routes,
+            times,
+            Owner(owner),
+            a,
+            b,
+            c,
+            d,
+            out,
+        ),
+        told,
+    )
 }
 
 // A part of a route in another order.
@@ -150,30 +137,26 @@ pub extern "C" fn notekarip_permutation(
     end: u32,
     list: &[u32],
     out: &mut [u32],
-    nums: &mut [i64],
-    told: &mut [u64],
+    told: &mut [u64; TOLD],
 ) -> u32
     ensures { λ c. ⌜ Answers (to-move owner (permuted start end (now (list .entry))) (length (now (out .entry))))
         (slices (now (base .entry)) (now (spans .entry)) (now (edges .entry)) (now (routes .entry)) (now (times .entry)))
         (slices (now (base .entry)) (now (spans .entry)) (now (edges .entry)) (now (routes .entry)) (now (times .entry)))
-        (now (out .entry)) (now (out .exit)) (now (nums .entry)) (now (nums .exit)) (now (told .entry)) (now (told .exit)) c ⌝ }
+        (now (out .entry)) (now (out .exit)) [] [] (now (told .entry)) (now (told .exit)) c ⌝ }
 {
-    if lacks_room(nums.len(), told.len()) {
-        return 13;
-    }
-    match permutation(
-        base,
-        spans,
-        edges,
-        routes,
-        times,
-        Owner(owner),
-        start,
-        end,
-        list,
-        out,
-    ) {
-        Moved::Refused(r) => code(r),
-        Moved::Is(k, quick, full) => tell_move(told, quick, full, k as u64),
-    }
+    moved(
+        permutation(
+            base,
+            spans,
+            edges,
+            routes,
+            times,
+            Owner(owner),
+            start,
+            end,
+            list,
+            out,
+        ),
+        told,
+    )
 }

@@ -61,10 +61,6 @@ impl<'a> Played<'a> {
             let reply = self.pair.call_short(rng, &call)?;
             self.tally.count(&reply);
         }
-        if rng.once_in(32) {
-            let reply = self.pair.call_few(rng, &call)?;
-            self.tally.count(&reply);
-        }
         let reply = self.pair.call(call)?;
         self.tally.count(&reply);
         match self.pair.plan() {

@@ -85,6 +85,11 @@ impl<T: Word> Lent<T> {
         &mut self.all[GUARD..][..self.length]
     }
 
+    /// All places, which are N.
+    pub fn array_mut<const N: usize>(&mut self) -> &mut [T; N] {
+        self.slice_mut().try_into().expect("as many places")
+    }
+
     /// Lends only the first `length` places, until it is called again with more.
     pub fn shorten(&mut self, length: usize) {
         self.length = length.min(self.all.len() - 2 * GUARD);

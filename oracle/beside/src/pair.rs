@@ -1,11 +1,10 @@
 //! The library and the rules side by side over one history.
 
 use crate::difference::Difference;
-use crate::library::{words, Library, Reply, FEW_PLACES};
+use crate::library::{words, Library, Reply};
 use crate::words::check_words;
 use compare::replay::{answer_line, call_line};
 use compare::rng::Rng;
-use notekarip::sizes::{NUMS, TOLD};
 use rules::{Call, Plan, Refusal, Slice, Store};
 
 /// An answer as a line of the replay list.
@@ -69,18 +68,6 @@ impl Pair {
         self.library.restore(slice);
         let how = format!("with {length} words of {slice:?}: {call:?}\n");
         self.compare(&how, found, expected)
-    }
-
-    /// The call with too few places for its numbers.
-    pub fn call_few(&mut self, rng: &mut Rng, call: &Call) -> Result<Reply, Difference> {
-        let (nums, told) = match rng.below(3) {
-            0 => (rng.below(NUMS), TOLD),
-            1 => (NUMS, rng.below(TOLD)),
-            _ => (rng.below(NUMS), rng.below(TOLD)),
-        };
-        let found = self.library.call_with(call, nums, told);
-        let how = format!("with {nums} and {told} places for numbers: {call:?}\n");
-        self.compare(&how, found, Err(FEW_PLACES))
     }
 
     fn compare(

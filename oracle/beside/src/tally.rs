@@ -1,6 +1,6 @@
 //! How often what came up.
 
-use crate::library::{Reply, FEW_PLACES};
+use crate::library::{Reply, BAD_STORE};
 use rules::{Answer, Report, Verdict};
 
 #[derive(Debug, Default)]
@@ -21,9 +21,9 @@ pub struct Tally {
     pub codes: Codes,
 }
 
-/// Calls by code: 0 accepted, 1 to 12 refused, 13 too few places for the numbers.
+/// Calls by code: 0 accepted, 1 to 12 refused.
 #[derive(Debug, Default)]
-pub struct Codes(pub [usize; FEW_PLACES as usize + 1]);
+pub struct Codes(pub [usize; BAD_STORE as usize + 1]);
 
 impl Tally {
     pub fn count(&mut self, reply: &Reply) {

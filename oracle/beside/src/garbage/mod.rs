@@ -4,18 +4,16 @@ mod calls;
 mod stores;
 
 use crate::difference::Difference;
-use crate::library::{words, Library, Reply, FEW_PLACES};
+use crate::library::{words, Library, Reply, BAD_STORE};
 use crate::tally::Codes;
 use crate::watch::begins;
 use crate::words::check_words;
 use calls::any_call;
 use compare::rng::Rng;
-use notekarip::sizes::{NUMS, TOLD};
 use rules::{Answer, Call, Load, Slice, Store};
 use stores::{good_store, spoil};
 
 const SHORT_STORE: u32 = 9;
-const BAD_STORE: u32 = 12;
 
 /// So many calls, a few on each store; each must be safe, end, and give a code that fits.
 pub fn run(calls: u64, seed: u64) -> Result<Codes, Difference> {
@@ -44,13 +42,8 @@ fn told(number: u64, call: &Call, what: &str) -> Difference {
     Difference(format!("call {number}: {what}\n{call:?}"))
 }
 
-/// The call, now and then with a slice lent too short or with few places for the numbers.
+/// The call, now and then with a slice lent too short.
 fn ask(rng: &mut Rng, library: &mut Library, call: &Call) -> Result<Reply, Difference> {
-    let mut places = |needed: usize| match rng.below(12) {
-        0 => rng.below(needed + 3),
-        _ => needed,
-    };
-    let (nums, told) = (places(NUMS), places(TOLD));
     let slice = Slice::ALL[rng.below(5)];
     let length = if rng.once_in(12) {
         rng.below(words(slice) + 3)
@@ -58,23 +51,20 @@ fn ask(rng: &mut Rng, library: &mut Library, call: &Call) -> Result<Reply, Diffe
         usize::MAX
     };
     library.shorten(slice, length);
-    let reply = library.call_with(call, nums, told)?;
+    let reply = library.call(call)?;
     library.restore(slice);
-    let few = nums < NUMS || told < TOLD;
-    check_code(call, &reply, few, length < words(slice))?;
+    check_code(call, &reply, length < words(slice))?;
     if let (Call::Load(load), Ok(answer)) = (call, &reply) {
         check_load(library, load, answer)?;
     }
     Ok(reply)
 }
 
-/// 13 exactly if places are few, else 9 exactly if a slice is short; 12 from neither load nor
-/// reset.
-fn check_code(call: &Call, reply: &Reply, few: bool, short: bool) -> Result<(), Difference> {
+/// 9 exactly if a slice is short; 12 from neither load nor reset.
+fn check_code(call: &Call, reply: &Reply, short: bool) -> Result<(), Difference> {
     let gave = |code: u32| reply == &Err(code);
-    let fits = gave(FEW_PLACES) == few && gave(SHORT_STORE) == (short && !few);
-    let how = || format!("{reply:?}, few places: {few}, a short slice: {short}");
-    Difference::unless(fits, how)?;
+    let how = || format!("{reply:?}, a short slice: {short}");
+    Difference::unless(gave(SHORT_STORE) == short, how)?;
     let takes_any = matches!(call, Call::Load(_) | Call::Reset);
     let what = || "refusal 12 of a call that takes any store".to_string();
     Difference::unless(!(takes_any && gave(BAD_STORE)), what)

@@ -11,11 +11,11 @@ use notekarip::Block;
 use rules::{Answer, Call, Slice};
 use written::Written;
 
-/// An answer, or the code that is none: a refusal's number, or 13.
+/// An answer, or the code that is none: a refusal's number.
 pub type Reply = Result<Answer, u32>;
 
-/// The greatest code that a call gives: too few places for the numbers.
-pub const FEW_PLACES: u32 = 13;
+/// The greatest code that a call gives: the store holds what no calls could have left.
+pub const BAD_STORE: u32 = 12;
 
 /// The fewest words of a slice of the store.
 pub fn words(slice: Slice) -> usize {
@@ -92,29 +92,25 @@ impl Library {
         self.shorten(slice, usize::MAX);
     }
 
-    /// A call with as many places for its numbers as they need.
+    /// A difference, if the call touches what it must not, gives an unknown code, or is refused and
+    /// returns a change.
     pub fn call(&mut self, call: &Call) -> Result<Reply, Difference> {
-        self.call_with(call, NUMS, TOLD)
-    }
-
-    /// A difference, if the call touches what it must not or gives an unknown code.
-    pub fn call_with(
-        &mut self,
-        call: &Call,
-        nums: usize,
-        told: usize,
-    ) -> Result<Reply, Difference> {
-        self.nums.room(nums);
-        self.told.room(told);
+        self.nums.room(NUMS);
+        self.told.room(TOLD);
         self.lend_answer(call);
         self.mark();
         let code = self.run(call);
-        Difference::unless(code <= FEW_PLACES, || format!("code {code}"))?;
-        self.check_kept(&Written::by(call, code, self), code)?;
-        match code {
-            0 => self.answer(call).map(Ok),
-            _ => Ok(Err(code)),
+        Difference::unless(code <= BAD_STORE, || format!("code {code}"))?;
+        let written = Written::by(call, code, self);
+        self.check_kept(&written, code)?;
+        if code == 0 {
+            return self.answer(call).map(Ok);
         }
+        let changes = self.nums.slice()[..written.nums]
+            .iter()
+            .any(|&part| part != 0);
+        Difference::unless(!changes, || format!("code {code}, and a change of score"))?;
+        Ok(Err(code))
     }
 
     fn lend_answer(&mut self, call: &Call) {

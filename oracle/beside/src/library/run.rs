@@ -17,8 +17,7 @@ impl Library {
                 self.edges.slice(),
                 self.routes.slice(),
                 self.times.slice(),
-                self.nums.slice_mut(),
-                self.told.slice_mut(),
+                self.nums.array_mut(),
             ),
             Call::Retract(owner) => calls::retract(
                 self.base.slice(),
@@ -27,8 +26,7 @@ impl Library {
                 self.routes.slice_mut(),
                 self.times.slice(),
                 *owner,
-                self.nums.slice_mut(),
-                self.told.slice_mut(),
+                self.nums.array_mut(),
             ),
             Call::Put(owner, entries) => calls::put(
                 self.base.slice(),
@@ -38,8 +36,8 @@ impl Library {
                 self.times.slice_mut(),
                 *owner,
                 entries,
-                self.nums.slice_mut(),
-                self.told.slice_mut(),
+                self.nums.array_mut(),
+                self.told.array_mut(),
             ),
             question => self.ask(question),
         }
@@ -58,8 +56,7 @@ impl Library {
             &load.expected,
             &load.from,
             &load.to,
-            self.nums.slice_mut(),
-            self.told.slice_mut(),
+            self.nums.array_mut(),
         )
     }
 
@@ -70,22 +67,24 @@ impl Library {
         let edges = self.edges.slice();
         let routes = self.routes.slice();
         let times = self.times.slice();
-        let nums = self.nums.slice_mut();
-        let told = self.told.slice_mut();
+        let told = self.told.array_mut();
         match question {
-            Call::Score => calls::score(base, spans, edges, routes, times, nums, told),
+            Call::Score => {
+                let nums = self.nums.array_mut();
+                calls::score(base, spans, edges, routes, times, nums, told)
+            }
             Call::Verdict { .. } => {
                 let out = self.jobs.slice_mut();
-                calls::verdict(base, spans, edges, routes, times, out, nums, told)
+                calls::verdict(base, spans, edges, routes, times, out, told)
             }
             Call::Starts { .. } => {
                 let out = self.starts.slice_mut();
-                calls::starts(base, spans, edges, routes, times, out, nums, told)
+                calls::starts(base, spans, edges, routes, times, out, told)
             }
             #[cfg(feature = "blocks")]
             Call::Blocks { owners, .. } => {
                 let out = self.blocks.slice_mut();
-                calls::blocks(base, spans, edges, routes, times, owners, out, nums, told)
+                calls::blocks(base, spans, edges, routes, times, owners, out, told)
             }
             #[cfg(feature = "moves")]
             Call::Move { owner, step, .. } => self.ask_move(*owner, step),
@@ -101,24 +100,23 @@ impl Library {
         let r = self.routes.slice();
         let t = self.times.slice();
         let out = self.jobs.slice_mut();
-        let nums = self.nums.slice_mut();
-        let told = self.told.slice_mut();
+        let told = self.told.array_mut();
         match *step {
             Move::ListChange { source, dest } => {
-                calls::list_change(b, s, e, r, t, owner, source, dest, out, nums, told)
+                calls::list_change(b, s, e, r, t, owner, source, dest, out, told)
             }
             Move::SublistChange { start, end, dest } => {
-                calls::sublist_change(b, s, e, r, t, owner, start, end, dest, out, nums, told)
+                calls::sublist_change(b, s, e, r, t, owner, start, end, dest, out, told)
             }
             Move::SublistSwap {
                 first: (from, to),
                 second: (with, until),
-            } => calls::sublist_swap(b, s, e, r, t, owner, from, to, with, until, out, nums, told),
+            } => calls::sublist_swap(b, s, e, r, t, owner, from, to, with, until, out, told),
             Move::Permutation {
                 start,
                 end,
                 ref list,
-            } => calls::permutation(b, s, e, r, t, owner, start, end, list, out, nums, told),
+            } => calls::permutation(b, s, e, r, t, owner, start, end, list, out, told),
         }
     }
 }

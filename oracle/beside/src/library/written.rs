@@ -1,10 +1,8 @@
 //! How many places of each lent slice a call may change.
 
-use super::Library;
+use super::{Library, BAD_STORE};
 use notekarip::sizes::{BASE, EDGES, ROUTES, SPANS, TIMES};
 use rules::Call;
-
-const BAD_STORE: u32 = 12;
 
 #[derive(Default)]
 pub struct Written {
@@ -26,7 +24,7 @@ impl Written {
         match code {
             0 => accepted(call, library.told.slice()),
             BAD_STORE => free(call),
-            _ => Written::default(),
+            _ => refused(call),
         }
     }
 }
@@ -49,12 +47,21 @@ fn accepted(call: &Call, told: &[u64]) -> Written {
     written
 }
 
-/// What 12 leaves in store and answer buffer is free; the numbers stay.
+/// Nothing but the change of score, which is zero.
+fn refused(call: &Call) -> Written {
+    Written {
+        nums: numbers(call).0,
+        ..Written::default()
+    }
+}
+
+/// What 12 leaves in store and answer buffer is free.
 fn free(call: &Call) -> Written {
     Written {
         jobs: usize::MAX,
         starts: usize::MAX,
         blocks: usize::MAX,
+        nums: numbers(call).0,
         ..in_store(call)
     }
 }

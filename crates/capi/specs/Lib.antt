@@ -1,0 +1,2 @@
+-- What the calls for C promise. Assumes nothing.
+pub mod Numbers

@@ -1,2 +1,0 @@
--- What the contracts of `tells` cite. Assumes nothing.
-pub mod Numbers
