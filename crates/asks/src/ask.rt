@@ -1,4 +1,5 @@
 // What a put is refused for before the routes are looked at.
+use rules::Plan;
 ghost use mathlib.Core.Path.{_≡_};
 ghost use Rattle.asks.specs.Asks.{askOf};
 
@@ -15,7 +16,7 @@ pub fn asked(owners: u32, owner: u32, entries: usize) -> Ask
     if owners <= owner {
         return Ask::NoSuchOwner;
     }
-    if 1024 < entries {
+    if Plan::ENTRIES < entries {
         return Ask::TooManyEntries;
     }
     Ask::Fine

@@ -1,4 +1,5 @@
 // What a route's entries come to.
+use rules::Plan;
 ghost use mathlib.Core.Path.{_≡_};
 ghost use Prim.Native.Nat.{_+_, _*_, _<_, _≤_};
 ghost use lib.ListN.{length, getD};
@@ -36,7 +37,7 @@ fn strays(expected: &[u32], v: u32, owner: u32) -> usize
         return 0;
     }
     let e = expected[i];
-    if e == 4294967295 {
+    if e == Plan::NOBODY {
         return 0;
     }
     if e == owner {

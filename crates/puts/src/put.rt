@@ -13,6 +13,7 @@ use routes::snap::snapshot;
 use routes::wait::Sum;
 use routes::wait::clear;
 use routes::wait::freed;
+use rules::Plan;
 ghost use mathlib.Core.Path.{_≡_};
 ghost use Prim.Native.Nat.{_+_, _<_, _≤_};
 ghost use lib.ListN.{length};
@@ -193,7 +194,7 @@ fn crowded(r: &[u16], owner: usize, valid: usize) -> Outcome
                 if n < out + (t - f) {
                     return Outcome::Bad;
                 }
-                if 1024 < n - out - (t - f) + valid {
+                if Plan::ENTRIES < n - out - (t - f) + valid {
                     return Outcome::NoRoom;
                 }
                 Outcome::Done(0, 0, 0)
