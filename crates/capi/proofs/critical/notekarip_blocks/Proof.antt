@@ -171,6 +171,7 @@ module _ {M : Type 1} (𝓤 : URA M) (H : Heap 𝓤) (A : Atoms 𝓤) (W : Given
   abbrev records-of : Lasts → List Block
   records-of us = us .1 .1 .1 .1 .1 .1 .0
 
+  -- what it asks is there on entry, beside told and its token
   asks : ent 𝓤 (mean 𝓤 H A (Toks (‵ ftrue) ⊛ ‵ (Params ftrue))) (Blk 𝓤 H A mem run .pre to-blk)
   asks = qed W ((Toks (‵ ftrue) ⊛ ‵ (Params ftrue)) ∷ []) ∵ frame ! $ done !
 
