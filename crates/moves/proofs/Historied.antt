@@ -36,5 +36,5 @@ blocks-kept os s s′ out out′ r B = record {
     leaves = D .leaves;
     answers = ap (λ (l : List ℕ). sets [] 0 l) (sym (none-written t os s out) ∙ ap answerOf (sym (D .says)));
   };
-  heeds = let H = B .heeds in record { first = H .first; later = H .later; stays = λ k e n. (H .stays k e n .0, refl) };
+  heeds = let H = B .heeds in record { first = H .first; later = H .later; stays = λ k e n. (H .stays k e n .0, refl); zero = H .zero };
 }
