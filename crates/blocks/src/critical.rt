@@ -1,96 +1,49 @@
 // Latest starts, backwards over a line-up, and which jobs are critical.
-use edges::spans::Row;
-use edges::spans::ends;
-use edges::spans::wide;
-use kernels::lines::Lined;
-use kernels::lines::line_up;
+use edges::lists::successors;
+use rules::Plan;
+use starts::lineup::line_up;
+use words::wide;
 ghost use mathlib.Core.Path.{_≡_};
-ghost use Prim.Native.Nat.{_-_, _<_, _≤_, min};
+ghost use Prim.Native.Nat.{_-_, _<_, _≤_};
 ghost use lib.ListN.{length};
 ghost use lib.Dec.{eqb};
 ghost use Rattle.rules.specs.Lists.{tick};
-ghost use Rattle.graphs.specs.Graph.{at, part};
-ghost use Rattle.blocks.specs.Latests.{lowest, Late, Latests, Marks, Criticals};
+ghost use Rattle.rules.specs.Sizes.{edgesLength, mostJobs};
+ghost use Rattle.blocks.specs.Latests.{lowerOf, Late, Latests, Criticals};
 
-pub enum When {
-    At(u64),
-    Bad,
-}
-
-pub enum Marked {
-    Fine,
-    Bad,
-}
-
-// `low`, or the latest start of job w if that is less.
-fn lower(late: &[u64], w: usize, low: u64) -> u64
-    requires { ⌜ w < length (now late) ⌝ }
-    ensures { λ r. ⌜ r ≡ min (at (now (late .entry)) w) low ⌝ }
+// `low`, or the latest start of job w if that is less. A number that is no job is passed over.
+fn lower(late: &[u64], w: u16, n: usize, low: u64) -> u64
+    requires { ⌜ n ≤ length (now late) ⌝ }
+    ensures { λ r. ⌜ r ≡ lowerOf (now (late .entry)) n low w ⌝ }
 {
-    let x = late[w];
+    let k = wide(w);
+    if n <= k {
+        return low;
+    }
+    let x = late[k];
     if x < low { x } else { low }
 }
 
-// The least latest start of the jobs at the places f up to, not including, t of the successors, and the makespan if that is less.
-fn least(e: &[u16], late: &[u64], f: usize, t: usize, n: usize, top: u64) -> When
-    requires { ⌜ (length (now e) ≡ 13314) × (n ≤ length (now late)) × (t ≤ 4096) ⌝ }
-    ensures { λ r. ⌜ r ≡ lowest (now (late .entry)) n top (part 513 f t (now (e .entry))) ⌝ }
-{
-    let mut low = top;
-    let mut k = f;
-    while k < t {
-        let w = wide(e[513 + k]);
-        if n <= w {
-            return When::Bad;
-        }
-        low = lower(late, w, low);
-        k = k + 1;
-    }
-    When::At(low)
-}
-
 // What starts by x at the latest, and lasts d.
-fn minus(x: u64, d: u64) -> When
-    ensures { λ r. ⌜ (d ≤ x → r ≡ When.At (x - d)) ⌝ }
+fn minus(x: u64, d: u64) -> u64
+    ensures { λ r. ⌜ r ≡ x - d ⌝ }
 {
-    if x < d {
-        return When::Bad;
-    }
-    When::At(x - d)
+    if x < d { 0 } else { x - d }
 }
 
 // The latest start of job v.
-fn latest(e: &[u16], spans: &[u64], late: &[u64], v: usize, n: usize, top: u64) -> When
-    requires { ⌜ (length (now e) ≡ 13314) × (n ≤ length (now spans)) × (n ≤ length (now late)) × (v < n) × (n ≤ 512) ⌝ }
+fn latest(e: &[u16], spans: &[u64], late: &[u64], v: usize, n: usize, top: u64) -> u64
+    requires { ⌜ (length (now e) ≡ edgesLength) × (n ≤ length (now spans)) × (n ≤ length (now late)) × (v < n) × (n ≤ mostJobs) ⌝ }
     ensures { λ r. ⌜ Late (now (e .entry)) (now (spans .entry)) (now (late .entry)) v n top r ⌝ }
 {
-    match ends(e, 0, v) {
-        Row::Bad => When::Bad,
-        Row::Is(f, t) => match least(e, late, f, t, n, top) {
-            When::Bad => When::Bad,
-            When::At(x) => minus(x, spans[v]),
-        },
+    let row = successors(e, v);
+    let mut low = top;
+    let mut k: usize = 0;
+    while k < row.len() {
+        low = lower(late, row[k], n, low);
+        k = k + 1;
     }
-}
-
-// Every latest start, from the end of the order.
-fn latests(e: &[u16], spans: &[u64], order: &[u16], late: &mut [u64], n: usize, top: u64) -> Marked
-    requires { ⌜ (length (now e) ≡ 13314) × (n ≤ length (now spans)) × (n ≤ length (now order)) × (n ≤ length (now late)) × (n ≤ 512) ⌝ }
-    ensures { λ r. ⌜ Latests (now (e .entry)) (now (spans .entry)) (now (order .entry)) n top r (now (late .exit)) ⌝ }
-{
-    let mut i = n;
-    while 0 < i {
-        i = i - 1;
-        let v = wide(order[i]);
-        if n <= v {
-            return Marked::Bad;
-        }
-        match latest(e, spans, &late[..], v, n, top) {
-            When::Bad => return Marked::Bad,
-            When::At(x) => late[v] = x,
-        }
-    }
-    Marked::Fine
+    minus(low, spans[v])
 }
 
 // 1 if the two are one.
@@ -103,41 +56,43 @@ fn flag(a: u64, b: u64) -> u8
     0
 }
 
-// 1 for each job below n that starts at its latest.
-fn mark(starts: &[u64], late: &[u64], crit: &mut [u8], n: usize)
-    requires { ⌜ (n ≤ length (now starts)) × (n ≤ length (now late)) × (n ≤ length (now crit)) ⌝ }
-    ensures { λ _. ⌜ Marks (now (starts .entry)) (now (late .entry)) (now (crit .entry)) n (now (crit .exit)) ⌝ }
-{
-    let mut v: usize = 0;
-    while v < n {
-        crit[v] = flag(starts[v], late[v]);
-        v = v + 1;
-    }
-}
-
-// 1 for each critical job.
-pub fn critical(
+// Every latest start from the end of the order, and 1 for each job that starts at its latest.
+fn latests(
     e: &[u16],
     spans: &[u64],
     starts: &[u64],
-    top: u64,
-    n: usize,
+    order: &[u16],
+    late: &mut [u64],
     crit: &mut [u8],
-) -> Marked
-    requires { ⌜ (length (now e) ≡ 13314) × (n ≤ length (now spans)) × (n ≤ length (now starts)) × (n ≤ length (now crit)) × (n ≤ 512) ⌝ }
-    ensures { λ r. ⌜ Criticals (now (e .entry)) (now (spans .entry)) (now (starts .entry)) top n (now (crit .entry)) r (now (crit .exit)) ⌝ }
+    n: usize,
+    top: u64,
+)
+    requires { ⌜ (length (now e) ≡ edgesLength) × (n ≤ length (now spans)) × (n ≤ length (now starts)) × (n ≤ length (now order))
+        × (n ≤ length (now late)) × (n ≤ length (now crit)) × (n ≤ mostJobs) ⌝ }
+    ensures { λ _. ⌜ Latests (now (e .entry)) (now (spans .entry)) (now (starts .entry)) (now (order .entry)) n top (now (crit .exit)) ⌝ }
 {
-    let mut order = [0u16; 512];
-    let mut late = [0u64; 512];
-    match line_up(e, n, &mut order) {
-        Lined::Bad => Marked::Bad,
-        Lined::Stuck => Marked::Bad,
-        Lined::All => match latests(e, spans, &order, &mut late, n, top) {
-            Marked::Bad => Marked::Bad,
-            Marked::Fine => {
-                mark(starts, &late, crit, n);
-                Marked::Fine
-            }
-        },
+    let mut i = n;
+    while 0 < i {
+        i = i - 1;
+        let v = wide(order[i]);
+        if n <= v {
+            return;
+        }
+        let x = latest(e, spans, &late[..], v, n, top);
+        late[v] = x;
+        crit[v] = flag(starts[v], x);
+    }
+}
+
+// 1 for each critical job, where there is a line-up.
+pub fn critical(e: &[u16], spans: &[u64], starts: &[u64], top: u64, n: usize, crit: &mut [u8])
+    requires { ⌜ (length (now e) ≡ edgesLength) × (n ≤ length (now spans)) × (n ≤ length (now starts)) × (n ≤ length (now crit))
+        × (n ≤ mostJobs) ⌝ }
+    ensures { λ _. ⌜ Criticals (now (e .entry)) (now (spans .entry)) (now (starts .entry)) top n (now (crit .exit)) ⌝ }
+{
+    let mut order = [0u16; Plan::JOBS];
+    let mut late = [0u64; Plan::JOBS];
+    if line_up(e, n, &mut order) {
+        latests(e, spans, starts, &order, &mut late, crit, n, top);
     }
 }

@@ -3,10 +3,10 @@
 use blocks::blocks::Blocked;
 use moves::moved::Moved;
 use refresh::put::Changed;
+use refresh::reported::Started;
 use refresh::reset::Ended;
 use refresh::score::Counted;
 use refresh::score::Scored;
-use refresh::starts::Started;
 use refresh::verdict::Judged;
 use rules::Refusal;
 use rules::Report;

@@ -7,14 +7,13 @@ use mathlib.Core.Bool.{true, cond}
 use mathlib.Core.List.{List, [], _∷_, _++_, map, append-assoc}
 use lib.Dec.{ltb}
 use lib.ListN.{length, getD, set, take, drop, drop-of-length-le, length-append, length-take, length-drop, length-map, length-set}
-use lib.Seq.{sets, sets-eq, take-at, drop-drop, take-take, take-all, take-append-le, drop-append-le, take-append-add, drop-append-add}
-use lib.Seq.{slice as between, getD-take, getD-drop, take-nil, drop-cons}
+use lib.Seq.{sets, sets-eq, take-at, drop-drop, take-take, take-all, take-append-le, drop-append-le, take-append-add, drop-append-add, slice as between, getD-take, getD-drop, take-nil, drop-cons}
 use native.Mathlib.Numerals.{add-one}
 use borrow.Author.Tests.{le-leb, lt-leb, ltb-true}
 use Rattle.rules.specs.Lists.{allBelow}
 use Rattle.rules.specs.Moves.{list-change, moved, permutation, slice, sublist-change, sublist-swap}
 use Rattle.rules.proofs.Ranges.{and-true}
-use Rattle.views.proofs.Seeks.{below-at}
+use Rattle.probes.proofs.Chaining.{below-at}
 use Rattle.moves.specs.Pieces.{Order, Piece, Ranges}
 
 -- the first words of a list are p, and behind them it is as `new` is

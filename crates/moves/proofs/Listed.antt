@@ -12,7 +12,11 @@ use lib.Seq.{drop-cons, getD-set-same, getD-set-other}
 use borrow.Author.Tests.{eq-eqb, ne-eqb, le-ltb, lt-ltb, ltb-true}
 use Rattle.rules.specs.Lists.{allBelow, distinct, isZero, memb}
 use Rattle.rules.proofs.Ranges.{Test, fail, pass, same, test}
-use Rattle.views.proofs.Links.{zeros}
+
+zeros : (m i : ℕ) → getD {A = ℕ} (replicate m 0) i 0 ≡ 0
+zeros zero i = refl
+zeros (suc m) zero = refl
+zeros (suc m) (suc i) = zeros m i
 
 -- each number of l is below k, has no mark in s, and is marked then
 abbrev pub fresh : ℕ → List ℕ → List ℕ → Bool

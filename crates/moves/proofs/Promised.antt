@@ -7,9 +7,10 @@ use mathlib.Core.Option.{Option, none, some}
 use mathlib.Core.Logic.{_⊎_, inl, inr}
 use mathlib.Core.List.{List, [], _∷_, _++_, append-assoc, map}
 use lib.Dec.{eqb, ltb}
-use lib.ListN.{length, getD, take, drop, length-map, replicate}
+use lib.ListN.{length, getD, take, drop, length-drop, length-map, replicate}
 use lib.Seq.{sets, length-sets, length-take-le, take-take, take-at, drop-at}
-use borrow.Author.Tests.{ne-eqb, le-leb, lt-leb, le-ltb, lt-ltb, ltb-true, ltb-false}
+use borrow.Author.Needs.{needs}
+use borrow.Author.Tests.{ne-eqb, le-leb, lt-leb, le-ltb, lt-ltb, ltb-true, ltb-false, not-false, not-true}
 use Rattle.rules.specs.declared.Plan.{Plan as Counts}
 use Rattle.rules.specs.declared.Refusal.{Refusal}
 use Rattle.rules.specs.declared.Refusal.the-variants.{BadPositions, BadStore, BrokenRoute, NoSuchOwner, ShortAnswer}
@@ -20,7 +21,7 @@ use Rattle.rules.specs.Moves.{Move, fullCheck, goodPositions, isFixed, isMovedC
 use Rattle.rules.specs.Refusals.{numberOf, firstOf, isBroken, noOwner, noPositions, tooFew}
 use Rattle.rules.specs.Routes.{Plan, Stop, emptyRoute, jobsOf, routeOf}
 use Rattle.rules.specs.Scores.{isCyclic}
-use Rattle.rules.specs.Sizes.{Base, falls, isShort, mostFixed, mostOwners, pairUp}
+use Rattle.rules.specs.Sizes.{Base, baseLength, edgesLength, falls, isShort, mostEntries, mostFixed, mostOwners, pairUp, routesLength}
 use Rattle.rules.specs.Sound.{LowStops}
 use Rattle.rules.proofs.Checks.{below-all, checks-agree-calm, new-jobs}
 use Rattle.rules.proofs.Ranges.{Test, clash, fail, lt-or-le, pass, same, test}
@@ -31,25 +32,26 @@ use Rattle.times.proofs.Graphing.{below, live-fun}
 use Rattle.stores.specs.Headers.{openOf, countsOf}
 use Rattle.stores.specs.Promise.{Heeds, Decided, Held, Promise, Slices, answerOf, lentOf}
 use Rattle.stores.specs.Says.{places}
-use Rattle.stores.specs.Words.{baseWords, froms, padded, tos}
+use Rattle.stores.specs.Words.{baseWords, fromAt, froms, padded, toAt, tos}
 use Rattle.stores.specs.declared.header.Header.{Header}
 use Rattle.stores.specs.declared.header.Header.the-variants.{Is as Headed, Refused as Unopened}
 use Rattle.stores.proofs.Laying.{padded-length}
 use Rattle.stores.proofs.Openings.{open-short, open-some}
 use Rattle.stores.proofs.Promises.{closed-kept, decided-read, decided-refused, opened-kept, refusal-long, heeds-first, heeds-later}
+use Rattle.times.specs.Words.{cyclicIn}
 use Rattle.stores.proofs.Scores.{timed}
-use Rattle.stores.proofs.Tabled.{part-slice, places-take, table-at, taken-sets}
+use Rattle.edges.proofs.Listing.{between}
+use Rattle.rules.proofs.Tabled.{table-at}
+use Rattle.stores.proofs.Tabled.{places-take, taken-sets}
 use Rattle.moves.specs.Calls.{Answers, Begins, Finishes, Judges, Opens, Places, Route, Words, saysMoved}
-use Rattle.views.specs.Gathered.{fixedIn}
-use Rattle.probes.specs.Judges.{Checks, onFor, staysFor}
-use Rattle.views.specs.Pairs.{Rising, fromsIn, pairsIn}
+use Rattle.probes.specs.Judges.{Checks, onFor, staysFor, verdicts}
+use Rattle.probes.specs.Pairs.{Rising}
 use Rattle.probes.specs.declared.checks.Checked.{Checked}
-use Rattle.probes.specs.declared.checks.Checked.the-variants.{Is as Checks-are, Bad}
 use Rattle.moves.specs.Stopping.{Stops, Whole}
 use Rattle.moves.specs.declared.moved.Begun.{Begun}
 use Rattle.moves.specs.declared.moved.Begun.the-variants.{Is as Ready, Refused as Unready}
 use Rattle.moves.specs.declared.stops.Route.{Route as Stopped}
-use Rattle.moves.specs.declared.stops.Route.the-variants.{Of, Broken, Bad as Lost}
+use Rattle.moves.specs.declared.stops.Route.the-variants.{Of, Broken}
 use Rattle.moves.specs.declared.moved.Moved.{Moved}
 use Rattle.moves.specs.declared.moved.Moved.the-variants.{Is, Refused}
 
@@ -59,40 +61,43 @@ use Rattle.moves.specs.declared.moved.Moved.the-variants.{Is, Refused}
 part-of : (l b : List ℕ) (n f k : ℕ) → take n l ≡ b → f + k ≤ n → take k (drop f l) ≡ take k (drop f b)
 part-of l b n f k e h =
     let q : f + k - f ≡ k = omega arith in
-    ap (λ (j : ℕ). take j (drop f l)) (sym q) ∙ part-slice f (f + k) l (omega arith)
+    ap (λ (j : ℕ). take j (drop f l)) (sym q) ∙ between f (f + k) l (omega arith)
     ∙ ap (drop f) (sym (take-take (f + k) n l h) ∙ ap (take (f + k)) e)
-    ∙ sym (part-slice f (f + k) b (omega arith)) ∙ ap (λ (j : ℕ). take j (drop f b)) q
+    ∙ sym (between f (f + k) b (omega arith)) ∙ ap (λ (j : ℕ). take j (drop f b)) q
 
 pairs-up : (l : List Pair) → pairUp (map (λ (e : Pair). e .0) l) (map (λ (e : Pair). e .1) l) ≡ l
 pairs-up [] = refl
 pairs-up (e ∷ l) = ap (λ (r : List Pair). e ∷ r) (pairs-up l)
 
-module _ (base : List ℕ) (b : Base) (held : take 6661 base ≡ baseWords b) (few : length (b .fixed) ≤ mostFixed) where
-  froms-are : fromsIn (length (b .fixed)) base ≡ froms b
+module _ (base : List ℕ) (b : Base) (held : take baseLength base ≡ baseWords b) (few : length (b .fixed) ≤ mostFixed) where
+  froms-are : take (length (b .fixed)) (drop fromAt base) ≡ froms b
   unfolding baseWords
   froms-are =
-      part-of base (baseWords b) 6661 5 (length (b .fixed)) held (omega arith)
+      part-of base (baseWords b) baseLength fromAt (length (b .fixed)) held (omega arith)
       ∙ front (froms b) (mostFixed - length (froms b)) _ (length-map (b .fixed) (λ (e : Pair). e .0))
     where
       front : (x : List ℕ) (j : ℕ) (y : List ℕ) → length x ≡ length (b .fixed) → take (length (b .fixed)) ((x ++ replicate j 0) ++ y) ≡ x
       front x j y q = ap (take (length (b .fixed))) (append-assoc x (replicate j 0) y)
           ∙ take-at x (replicate j 0 ++ y) (length (b .fixed)) q
 
-  tos-are : take (length (b .fixed)) (drop 3077 base) ≡ tos b
+  tos-are : take (length (b .fixed)) (drop toAt base) ≡ tos b
   unfolding baseWords
   tos-are =
-      part-of base (baseWords b) 6661 3077 (length (b .fixed)) held (omega arith)
-      ∙ ap (take (length (b .fixed))) (drop-at (padded mostFixed (froms b)) (padded mostFixed (tos b) ++ _) 3072
+      part-of base (baseWords b) baseLength toAt (length (b .fixed)) held (omega arith)
+      ∙ ap (take (length (b .fixed))) (drop-at (padded mostFixed (froms b)) (padded mostFixed (tos b) ++ _) mostFixed
       (padded-length mostFixed (froms b) 0 (let a = length-map (b .fixed) (λ (e : Pair). e .0) in omega arith)))
       ∙ ap (take (length (b .fixed))) (append-assoc (tos b) (replicate (mostFixed - length (tos b)) 0) _)
       ∙ take-at (tos b) _ (length (b .fixed)) (length-map (b .fixed) (λ (e : Pair). e .1))
 
-  pub pairs-are : pairsIn (length (b .fixed)) base ≡ b .fixed
-  unfolding pairsIn
-  pairs-are = rw (froms-are, tos-are) (pairs-up (b .fixed))
+  module _ {k : ℕ} {from to : List ℕ} (ek : k ≡ length (b .fixed)) (ef : from ≡ take k (drop fromAt base)) (et : to ≡ take k (drop toAt base)) where
+    pub pairs-are : pairUp from to ≡ b .fixed
+    pairs-are = rw (ef, et, ek, froms-are, tos-are) (pairs-up (b .fixed))
 
-  pub rising-is : falls 0 (froms b) ≡ false → Rising (length (b .fixed)) base
-  rising-is h = record { is = rw froms-are h }
+    pub rising-is : falls 0 (froms b) ≡ false → Rising from
+    rising-is h = rw (ef, ek, froms-are) (rises h)
+      where
+        rises : falls 0 (froms b) ≡ false → Rising (froms b)
+        rises h = record { is = h }
 
 -- a pair whose head is below n is one of the valid ones
 valid-times : (n u v : ℕ) (l : List Pair) → v < n → times (u, v) (keep (λ e. ltb (e .1) n) l) ≡ times (u, v) l
@@ -143,55 +148,62 @@ module _ {base e tms : List ℕ} {plan : Counts} {p : Plan} (W : Words base e tm
       below-all (p .base .jobs) (jobsOf (routeOf p o)) (rw (R .are) at old-low) v
       (sym (new-jobs p o m good-stops v) ∙ q)))
 
-  fixed-is : (u v : ℕ) → u < p .base .jobs → v < p .base .jobs → isFixed p u v ≡ fixedIn (length (p .base .fixed)) base u v
-  unfolding isFixed
-  fixed-is u v hu hv =
-      ap (λ (x : ℕ). not (isZero x)) (valid-times (p .base .jobs) u v (p .base .fixed) hv)
-      ∙ ap (λ (l : List Pair). occurs l u v) (sym (pairs-are base (p .base) (W .base) (W .sound .loaded .fixed)))
-
-  on-moved : onFor old new k (edgesOf p) (isFixed p) ≡ movedOn p o m
+  on-moved : onFor (take k old) (take k new) (edgesOf p) (isFixed p) ≡ movedOn p o m
   unfolding movedOn
   on-moved = rw (R .are, new-is, live-fun p (W .sound))
 
-  stays-moved : staysFor old new k (edgesOf p) (isFixed p) ≡ movedStays p o m
+  stays-moved : staysFor (take k old) (take k new) (edgesOf p) (isFixed p) ≡ movedStays p o m
   unfolding movedStays
   stays-moved = rw (R .are, new-is, live-fun p (W .sound))
 
-  quick-moved : quickCheck (p .base .jobs) (onFor old new k (edgesOf p) (isFixed p)) (staysFor old new k (edgesOf p) (isFixed p))
-      ≡ isMovedQuick p o m
+  abbrev quick-of : Bool
+  quick-of = quickCheck (p .base .jobs) (onFor (take k old) (take k new) (edgesOf p) (isFixed p))
+      (staysFor (take k old) (take k new) (edgesOf p) (isFixed p))
+
+  abbrev full-of : Bool
+  full-of = fullCheck (p .base .jobs) (onFor (take k old) (take k new) (edgesOf p) (isFixed p))
+
+  quick-moved : quick-of ≡ isMovedQuick p o m
   unfolding isMovedQuick
   quick-moved =
-      ap (λ (E : Graph). quickCheck (p .base .jobs) E (staysFor old new k (edgesOf p) (isFixed p))) on-moved
+      ap (λ (E : Graph). quickCheck (p .base .jobs) E (staysFor (take k old) (take k new) (edgesOf p) (isFixed p))) on-moved
       ∙ ap (λ (S : Graph). quickCheck (p .base .jobs) (movedOn p o m) S) stays-moved
 
-  full-moved : fullCheck (p .base .jobs) (onFor old new k (edgesOf p) (isFixed p)) ≡ isMovedCyclic p o m
+  full-moved : full-of ≡ isMovedCyclic p o m
   unfolding isMovedCyclic
   full-moved = ap (fullCheck (p .base .jobs)) on-moved
 
-  pub checks-are : {n fixed : ℕ} {was : Bool} {c : Checked} → n ≡ plan .jobs → fixed ≡ plan .fixed → was ≡ not (eqb (getD tms 0 0) 0)
-      → Checks base fixed e old new k n was c → c ≡ Checks-are (isMovedQuick p o m) (isMovedCyclic p o m)
-  checks-are {n} {fixed} {was} {c} en ef ew C =
-      let en′ : n ≡ p .base .jobs = en ∙ ap (λ (x : Counts). x .jobs) (W .counts) in
-      let ef′ : fixed ≡ length (p .base .fixed) = ef ∙ ap (λ (x : Counts). x .fixed) (W .counts) in
-      let C′ : Checks base (length (p .base .fixed)) e old new k (p .base .jobs) was c = rw (en′, ef′) at C in
-      C′ .is (edgesOf p) (isFixed p) (W .edges) (below p (W .sound))
-      (rising-is base (p .base) (W .base) (W .sound .loaded .fixed) (W .sound .loaded .rising)) fixed-is
-      (λ q. quick-moved ∙ sym (checks-agree-calm p o m (calm q (isCyclic p) (timed p tms (W .times) .0))) ∙ sym full-moved)
-      ∙ ap (λ (x : Bool). Checks-are x (fullCheck (p .base .jobs) (onFor old new k (edgesOf p) (isFixed p)))) quick-moved
-      ∙ ap (λ (x : Bool). Checks-are (isMovedQuick p o m) x) full-moved
-    where
-      calm : was ≡ false → (b : Bool) → getD tms 0 0 ≡ tick b 0 → b ≡ false
-      calm q true t = let x : was ≡ true = ew ∙ rw t in clash x q
-      calm q false t = refl
+  module _ {n j : ℕ} {from to : List ℕ} {was : Bool} (en : n ≡ plan .jobs) (ej : j ≡ plan .fixed)
+      (ef : from ≡ take j (drop fromAt base)) (et : to ≡ take j (drop toAt base)) (ew : was ≡ cyclicIn tms) where
+    ej′ : j ≡ length (p .base .fixed)
+    ej′ = ej ∙ ap (λ (x : Counts). x .fixed) (W .counts)
+
+    fixed-is : (u v : ℕ) → u < p .base .jobs → v < p .base .jobs → isFixed p u v ≡ occurs (pairUp from to) u v
+    unfolding isFixed
+    fixed-is u v hu hv =
+        ap (λ (x : ℕ). not (isZero x)) (valid-times (p .base .jobs) u v (p .base .fixed) hv)
+        ∙ ap (λ (l : List Pair). occurs l u v) (sym (pairs-are base (p .base) (W .base) (W .sound .loaded .fixed) ej′ ef et))
+
+    calm : was ≡ false → (b : Bool) → getD tms 0 0 ≡ tick b 0 → b ≡ false
+    calm q true h = let x : was ≡ true = ew ∙ rw h in clash x q
+    calm q false h = refl
+
+    pub checks-are : {c : Checked} → Checks from to e (take k old) (take k new) n was c → c ≡ verdicts (isMovedQuick p o m) (isMovedCyclic p o m)
+    checks-are {c} C =
+        let en′ : n ≡ p .base .jobs = en ∙ ap (λ (x : Counts). x .jobs) (W .counts) in
+        let C′ : Checks from to e (take k old) (take k new) (p .base .jobs) was c = rw en′ at C in
+        C′ .is (edgesOf p) (isFixed p) (W .edges) (below p (W .sound))
+        (rising-is base (p .base) (W .base) (W .sound .loaded .fixed) ej′ ef et (W .sound .loaded .rising)) fixed-is
+        (λ q. quick-moved ∙ sym (checks-agree-calm p o m (calm q (isCyclic p) (timed p tms (W .times) .0))) ∙ sym full-moved)
+        ∙ ap (λ (x : Bool). verdicts x full-of) quick-moved
+        ∙ ap (λ (x : Bool). verdicts (isMovedQuick p o m) x) full-moved
 
   pub answers-are : {out out′ : List ℕ} {x y : Bool} → k ≤ length out → k ≤ length new → out′ ≡ sets out 0 (take k new)
-      → _≡_ {A = Checked} (Checks-are x y) (Checks-are (isMovedQuick p o m) (isMovedCyclic p o m)) → Answers p o m out (Is k x y) out′
-  answers-are {out} {out′} {x} {y} room lent w c =
+      → x ≡ isMovedQuick p o m → y ≡ isMovedCyclic p o m → Answers p o m out (Is k x y) out′
+  answers-are {out} {out′} {x} {y} room lent w a b =
       let q : places k out′ ≡ newRoute p o m =
       places-take k out′ (let a = length-sets out 0 (take k new) in let b = ap length w in omega arith)
       ∙ ap (take k) w ∙ taken-sets out (take k new) k (length-take-le k new lent) room ∙ new-is in
-      let a : x ≡ isMovedQuick p o m = cc in
-      let b : y ≡ isMovedCyclic p o m = cc in
       record { says = rw (q, a, b); answers = w ∙ ap (sets out 0) new-is }
 
 -- ── what the code answers ──
@@ -202,38 +214,55 @@ bad-twelve j e = cc
 counted : {base e tms : List ℕ} {plan : Counts} {p : Plan} {n : ℕ} → n ≡ plan .jobs → Words base e tms plan p → n ≡ p .base .jobs
 counted en W = en ∙ ap (λ (x : Counts). x .jobs) (W .counts)
 
-module _ {base e tms : List ℕ} {plan : Counts} {old new : List ℕ} {k : ℕ} {out : List ℕ} {n : ℕ} (en : n ≡ plan .jobs) where
-  pub judge-old : {b : Bool} {out′ : List ℕ} → b ≡ allBelow n (take k old) → b ≡ false
+module _ {base e tms : List ℕ} {plan : Counts} {old new : List ℕ} {k : ℕ} {out : List ℕ} {n : ℕ} where
+  pub judge-old : {b : Bool} {out′ : List ℕ} → b ≡ allBelow n (take k old) → not b ≡ true → n ≡ plan .jobs
       → Judges base e tms plan old new k out (Refused BadStore) out′
-  judge-old q f = record {
+  judge-old {b} q f en = record {
     twelve = bad-twelve;
-    is = λ p W o m R g w. clash (rw (counted en W) (old-low W R new m g w)) (sym q ∙ f);
+    is = λ p W o m R g w. clash (rw (counted en W) (old-low W R new m g w)) (sym q ∙ not-true b f);
   }
 
-  pub judge-new : {b : Bool} {out′ : List ℕ} → b ≡ allBelow n (take k new) → b ≡ false
+  pub judge-new : {b : Bool} {out′ : List ℕ} → b ≡ allBelow n (take k new) → not b ≡ true → n ≡ plan .jobs
       → Judges base e tms plan old new k out (Refused BadStore) out′
-  judge-new q f = record {
+  judge-new {b} q f en = record {
     twelve = bad-twelve;
-    is = λ p W o m R g w. clash (rw (counted en W) (new-low W R new m g w)) (sym q ∙ f);
+    is = λ p W o m R g w. clash (rw (counted en W) (new-low W R new m g w)) (sym q ∙ not-true b f);
   }
 
-  module _ {fixed : ℕ} {was : Bool} {c : Checked} (ef : fixed ≡ plan .fixed) (ew : was ≡ not (eqb (getD tms 0 0) 0))
-      (C : Checks base fixed e old new k n was c) where
-    pub judge-bad : {out′ : List ℕ} → c ≡ Bad → Judges base e tms plan old new k out (Refused BadStore) out′
-    judge-bad q = record {
-      twelve = bad-twelve;
-      is = λ p W o m R g w.
-          let z = checks-are W R new m g w en ef ew C in
-          let y : _≡_ {A = ℕ} 0 1 = cc in
-          absurd (omega arith);
-    }
+  pub judge-shown : {from to : List ℕ} {was : Bool} {c : Checked} {out′ : List ℕ} {j : ℕ}
+      → Checks from to e (take k old) (take k new) n was c → out′ ≡ sets out 0 (take k new)
+      → from ≡ take j (drop fromAt base) → to ≡ take j (drop toAt base) → was ≡ cyclicIn tms → n ≡ plan .jobs → j ≡ plan .fixed
+      → length new ≡ mostEntries → k ≤ mostEntries → k ≤ length out
+      → Judges base e tms plan old new k out (Is k (c .quick) (c .full)) out′
+  judge-shown {c = c} C w′ ef et ew en ej long few room = record {
+    twelve = λ j z. absurd (let y : _≡_ {A = ℕ} 0 1 = cc in omega arith);
+    is = λ p W o m R g w.
+        let q = checks-are W R new m g w en ej ef et ew C in
+        answers-are W R new m g w room (omega arith) w′ (ap (λ (x : Checked). x .quick) q) (ap (λ (x : Checked). x .full) q);
+  }
 
-    pub judge-shown : {x y : Bool} {out′ : List ℕ} → c ≡ Checks-are x y → k ≤ length out → k ≤ length new → out′ ≡ sets out 0 (take k new)
-        → Judges base e tms plan old new k out (Is k x y) out′
-    judge-shown q room lent w′ = record {
-      twelve = λ j z. absurd (let y : _≡_ {A = ℕ} 0 1 = cc in omega arith);
-      is = λ p W o m R g w. answers-are W R new m g w room lent w′ (sym q ∙ checks-are W R new m g w en ef ew C);
-    }
+-- ── what the check asks ──
+
+-- the fixed list's two parts are of one length
+pub parts-even : (base : List ℕ) {from to : List ℕ} {j k : ℕ} → from ≡ take k (drop fromAt base) → to ≡ take k (drop toAt base)
+    → baseLength ≤ length base → k ≡ j → j ≤ mostFixed → length from ≡ length to
+parts-even base {k = k} ef et h ek hj =
+    ap length ef ∙ length-take-le k (drop fromAt base) (simp length-drop (omega arith))
+    ∙ sym (ap length et ∙ length-take-le k (drop toAt base) (simp length-drop (omega arith)))
+
+pub front-long : (l : List ℕ) {k n : ℕ} → length l ≡ n → k ≤ n → length (take k l) ≡ k
+front-long l {k} e h = length-take-le k l (omega arith)
+
+pub front-few : (l : List ℕ) {k n : ℕ} → length l ≡ n → k ≤ n → length (take k l) ≤ n
+front-few l {k} e h = let q = front-long l e h in omega arith
+
+pub count-few : {n m k : ℕ} → n ≡ m → m ≤ k → n ≤ k
+count-few e h = omega arith
+
+pub tested : {b c : Bool} → b ≡ c → not b ≡ false → c ≡ true
+tested {b} e f = sym e ∙ not-false b f
+
+pub ruleset judging = (needs, judge-old, judge-new, judge-shown, front-long)
 
 module _ {base e tms : List ℕ} {plan : Counts} {old new : List ℕ} {k : ℕ} {out : List ℕ} where
   pub finish-few : length out < k → Finishes base e tms plan old new k out (Refused ShortAnswer) out
@@ -297,28 +326,25 @@ module _ (s : Slices) (o : ℕ) {h : Header} (opens : h ≡ openOf (lentOf s) (s
     begins-nobody e f = refuses NoSuchOwner (λ m out. heeds-first (to-move o m (length out)) s opens out
         (rw (is, le-leb (plan .owners) o (ltb-false o (plan .owners) (sym e ∙ f))))) (λ p H q m k. no-owner p o m k (rw q at (ltb-false o (plan .owners) (sym e ∙ f))))
 
-    module _ {b : Bool} (e : b ≡ ltb o (plan .owners)) (t : b ≡ true) (few : plan .owners ≤ 64) {w : ℕ} (ew : w ≡ o) where
+    module _ {b : Bool} (e : b ≡ ltb o (plan .owners)) (t : b ≡ true) (few : plan .owners ≤ mostOwners) where
       low : o < plan .owners
       low = ltb-true o (plan .owners) (sym e ∙ t)
 
       owner-of : (p : Plan) → plan ≡ countsOf (p .base) → o < p .base .owners
       owner-of p q = rw q at low
 
-      route-at : (p : Plan) → routeAt (routesOf p) w ≡ routeOf p o
+      route-at : (p : Plan) → routeAt (routesOf p) o ≡ routeOf p o
       unfolding routesOf
-      route-at p = rw ew (table-at mostOwners (routeOf p) o emptyRoute (let a = low in omega arith))
+      route-at p = table-at mostOwners (routeOf p) emptyRoute o (let a = low in omega arith)
 
-      module _ {jobs : List ℕ} {x : Stopped} (S : Stops (take 1794 (s .routes)) w x jobs) where
-        pub begins-bad : x ≡ Lost → Begins s o jobs (Unready BadStore)
-        begins-bad y = refuses BadStore (heeded low BadStore refl) (λ p H q m k. absurd ((rw y at (S .is)) (routesOf p) (H .desk .routes)))
-
+      module _ {jobs : List ℕ} {x : Stopped} (S : Stops (take routesLength (s .routes)) o x jobs) where
         pub begins-broken : x ≡ Broken → Begins s o jobs (Unready BrokenRoute)
         begins-broken y = refuses BrokenRoute (heeded low BrokenRoute refl) (λ p H q m k.
             broken p o m k (owner-of p q) (rw (route-at p) at ((rw y at (S .is)) (routesOf p) (H .desk .routes))))
 
         pub begins-of : {k : ℕ} → x ≡ Of k → Begins s o jobs (Ready plan k)
         begins-of {k} y =
-            let (a, f) : (k ≤ 1024) × ((m : Model) → RoutesHold (take 1794 (s .routes)) m → Whole m w k jobs) = rw y at (S .is) in
+            let (a, f) : (k ≤ mostEntries) × ((m : Model) → RoutesHold (take routesLength (s .routes)) m → Whole m o k jobs) = rw y at (S .is) in
             record {
               is = record {
                 opens = sym opens ∙ is;
@@ -349,9 +375,6 @@ module _ (s : Slices) (o : ℕ) {h : Header} (opens : h ≡ openOf (lentOf s) (s
             planned : (p : Plan) → Held s p → plan ≡ countsOf (p .base)
             planned p H = let y = open-some s (opened-long is) p H in let z = sym opens ∙ is in cc
 
-pub owner-near : {o w k : ℕ} {b : Bool} → w ≡ o → b ≡ ltb o k → b ≡ true → k ≤ 64 → w < 64
-owner-near {o} {w} {k} q e t h = let a = ltb-true o k (sym e ∙ t) in omega arith
-
 -- ── the call ──
 
 says-refused : (out : List ℕ) (r : Moved) (k : Refusal) → saysMoved out r ≡ refused k → r ≡ Refused k
@@ -377,7 +400,7 @@ module _ (s : Slices) (o : ℕ) (m : Move) (out : List ℕ) {jobs : List ℕ} {x
           (heeded s o refl (ready B q .opens) (ready B q .owned) BadPositions refl m out)
 
       module _ (t : b ≡ true) {r : Moved} {out′ : List ℕ}
-          (F : Finishes (s .base) (take 13314 (s .edges)) (s .times) plan jobs new k out r out′) where
+          (F : Finishes (s .base) (take edgesLength (s .edges)) (s .times) plan jobs new k out r out′) where
         good : goodPositions k m ≡ true
         good = sym (P .good) ∙ t
 
@@ -393,7 +416,7 @@ module _ (s : Slices) (o : ℕ) (m : Move) (out : List ℕ) {jobs : List ℕ} {x
             ∙ short p o m (length out) (R .owner) (R .whole) (rw (R .long) at good) (rw (R .long) at h)))
         decided g p H c (inr h) =
             let R = ready B q .is p H in
-            let W : Words (s .base) (take 13314 (s .edges)) (s .times) plan p =
+            let W : Words (s .base) (take edgesLength (s .edges)) (s .times) plan p =
             record { base = H .base; edges = H .desk .edges; sound = H .desk .sound; times = H .times; counts = c } in
             let A = F .enough h .is p W o m R good (P .is t) in
             let d = decided-read p (to-move o m (length out)) s H

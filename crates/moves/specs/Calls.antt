@@ -12,6 +12,7 @@ use Rattle.rules.specs.Calls.{Reply, refused, rerouted, to-move}
 use Rattle.rules.specs.Moves.{Move, list-change, permutation, sublist-change, sublist-swap, goodPositions, isMovedCyclic, isMovedQuick, moved, newRoute}
 use Rattle.rules.specs.Routes.{Plan, jobsOf, routeOf}
 use Rattle.rules.specs.Sound.{Sound}
+use Rattle.rules.specs.Sizes.{baseLength, mostEntries, timesLength}
 use Rattle.edges.specs.Edges.{Holds}
 use Rattle.routes.specs.Desks.{edgesOf}
 use Rattle.times.specs.Words.{timeWords}
@@ -52,7 +53,7 @@ pub record Route (p : Plan) (o k : ℕ) (jobs : List ℕ) : Type 0 where
 pub record Opens (s : Slices) (o : ℕ) (jobs : List ℕ) (plan : Counts) (k : ℕ) : Type 0 where
   pub opens : openOf (lentOf s) (s .base) ≡ Headed plan
   pub owned : o < plan .owners
-  pub few : k ≤ 1024
+  pub few : k ≤ mostEntries
   pub is : (p : Plan) → Held s p → Route p o k jobs
 
 -- or the call is refused, whatever the move
@@ -78,10 +79,10 @@ pub record Answers (p : Plan) (o : ℕ) (m : Move) (out : List ℕ) (r : Moved) 
 
 -- the words of a plan
 pub record Words (b e t : List ℕ) (plan : Counts) (p : Plan) : Type 0 where
-  pub base : take 6661 b ≡ baseWords (p .base)
+  pub base : take baseLength b ≡ baseWords (p .base)
   pub edges : Holds e (edgesOf p)
   pub sound : Sound p
-  pub times : take 514 t ≡ timeWords p
+  pub times : take timesLength t ≡ timeWords p
   pub counts : plan ≡ countsOf (p .base)
 
 pub record Judges (base e times : List ℕ) (plan : Counts) (old new : List ℕ) (k : ℕ) (out : List ℕ) (r : Moved) (out′ : List ℕ) : Type 0 where

@@ -6,20 +6,23 @@ use crate::places::place_swap;
 use crate::stops::Route;
 use crate::stops::are_jobs;
 use crate::stops::route_of;
-use probes::checks::Checked;
 use probes::checks::check;
-use refresh::verdict::show;
 use rules::Owner;
 use rules::Plan;
 use rules::Refusal;
+use stores::base::froms;
+use stores::base::tos;
 use stores::header::Header;
 use stores::header::broad;
 use stores::header::opened;
+use times::is_cyclic;
+use words::widen;
 ghost use mathlib.Core.Path.{_≡_};
 ghost use Prim.Native.Nat.{_≤_};
 ghost use lib.ListN.{length};
 ghost use Rattle.rules.specs.Calls.{to-move};
 ghost use Rattle.rules.specs.Moves.{list-change, sublist-change, sublist-swap, permutation as permuted};
+ghost use Rattle.rules.specs.Sizes.{baseLength, edgesLength, mostEntries, mostFixed, mostJobs, timesLength};
 ghost use Rattle.stores.specs.Promise.{Promise, slices};
 ghost use Rattle.moves.specs.Calls.{Begins, Finishes, Judges, Places, moveOf, saysMoved};
 
@@ -45,7 +48,7 @@ fn begin(
     owner: Owner,
     old: &mut [u16],
 ) -> Begun
-    requires { ⌜ length (now old) ≡ 1024 ⌝ }
+    requires { ⌜ length (now old) ≡ mostEntries ⌝ }
     ensures { λ r. ⌜ Begins
         (slices (now (base .entry)) (now (spans .entry)) (now (edges .entry)) (now (routes .entry)) (now (times .entry)))
         (owner .0) (now (old .exit)) r ⌝ }
@@ -56,9 +59,7 @@ fn begin(
             if !plan.has_owner(owner) {
                 return Begun::Refused(Refusal::NoSuchOwner);
             }
-            let o = broad(owner.0);
-            match route_of(&routes[..1794], o, old) {
-                Route::Bad => Begun::Refused(Refusal::BadStore),
+            match route_of(&routes[..Plan::ROUTES], owner, old) {
                 Route::Broken => Begun::Refused(Refusal::BrokenRoute),
                 Route::Of(len) => Begun::Is(plan, len),
             }
@@ -77,26 +78,33 @@ fn judge(
     len: usize,
     out: &mut [u32],
 ) -> Moved
-    requires { ⌜ (6661 ≤ length (now base)) × (length (now edges) ≡ 13314) × (514 ≤ length (now times)) × (plan .jobs ≤ 512)
-        × (plan .fixed ≤ 3072) × (length (now old) ≡ 1024) × (length (now new) ≡ 1024) × (len ≤ 1024) × (len ≤ length (now out)) ⌝ }
+    requires { ⌜ (baseLength ≤ length (now base)) × (length (now edges) ≡ edgesLength) × (timesLength ≤ length (now times))
+        × (plan .jobs ≤ mostJobs) × (plan .fixed ≤ mostFixed) × (length (now old) ≡ mostEntries) × (length (now new) ≡ mostEntries)
+        × (len ≤ mostEntries) × (len ≤ length (now out)) ⌝ }
     ensures { λ r. ⌜ Judges (now (base .entry)) (now (edges .entry)) (now (times .entry)) plan (now (old .entry)) (now (new .entry)) len
         (now (out .entry)) r (now (out .exit)) ⌝ }
 {
     let n = broad(plan.jobs);
-    let fixed = broad(plan.fixed);
+    let k = broad(plan.fixed);
     if !are_jobs(old, len, n) {
         return Moved::Refused(Refusal::BadStore);
     }
     if !are_jobs(new, len, n) {
         return Moved::Refused(Refusal::BadStore);
     }
-    match check(base, fixed, edges, old, new, len, n, times[0] != 0) {
-        Checked::Bad => Moved::Refused(Refusal::BadStore),
-        Checked::Is(q, f) => {
-            show(out, new, len);
-            Moved::Is(len, q, f)
-        }
-    }
+    let c = check(
+        froms(base, k),
+        tos(base, k),
+        edges,
+        &old[..len],
+        &new[..len],
+        n,
+        is_cyclic(times),
+    );
+    widen(out, 0, new, len);
+    let quick = c.quick;
+    let full = c.full;
+    Moved::Is(len, quick, full)
 }
 
 // The same, if the answer has room.
@@ -110,8 +118,9 @@ fn finish(
     len: usize,
     out: &mut [u32],
 ) -> Moved
-    requires { ⌜ (6661 ≤ length (now base)) × (length (now edges) ≡ 13314) × (514 ≤ length (now times)) × (plan .jobs ≤ 512)
-        × (plan .fixed ≤ 3072) × (length (now old) ≡ 1024) × (length (now new) ≡ 1024) × (len ≤ 1024) ⌝ }
+    requires { ⌜ (baseLength ≤ length (now base)) × (length (now edges) ≡ edgesLength) × (timesLength ≤ length (now times))
+        × (plan .jobs ≤ mostJobs) × (plan .fixed ≤ mostFixed) × (length (now old) ≡ mostEntries) × (length (now new) ≡ mostEntries)
+        × (len ≤ mostEntries) ⌝ }
     ensures { λ r. ⌜ Finishes (now (base .entry)) (now (edges .entry)) (now (times .entry)) plan (now (old .entry)) (now (new .entry)) len
         (now (out .entry)) r (now (out .exit)) ⌝ }
 {
@@ -131,7 +140,7 @@ enum Asked {
 
 // Whether the positions are good, and if they are the new route.
 fn place(asked: Asked, list: &[u32], old: &[u16], len: usize, new: &mut [u16]) -> bool
-    requires { ⌜ (length (now old) ≡ 1024) × (length (now new) ≡ 1024) × (len ≤ 1024) ⌝ }
+    requires { ⌜ (length (now old) ≡ mostEntries) × (length (now new) ≡ mostEntries) × (len ≤ mostEntries) ⌝ }
     ensures { λ r. ⌜ Places (moveOf asked (now (list .entry))) len (now (old .entry)) r (now (new .exit)) ⌝ }
 {
     match asked {
@@ -159,15 +168,24 @@ fn answer(
         (slices (now (base .entry)) (now (spans .entry)) (now (edges .entry)) (now (routes .entry)) (now (times .entry)))
         (now (out .entry)) (now (out .exit)) (saysMoved (now (out .exit)) r) ⌝ }
 {
-    let mut old = [0u16; 1024];
-    let mut new = [0u16; 1024];
+    let mut old = [0u16; Plan::ENTRIES];
+    let mut new = [0u16; Plan::ENTRIES];
     match begin(base, spans, edges, routes, times, owner, &mut old) {
         Begun::Refused(r) => Moved::Refused(r),
         Begun::Is(plan, len) => {
             if !place(asked, list, &old, len, &mut new) {
                 return Moved::Refused(Refusal::BadPositions);
             }
-            finish(base, &edges[..13314], times, plan, &old, &new, len, out)
+            finish(
+                base,
+                &edges[..Plan::EDGES],
+                times,
+                plan,
+                &old,
+                &new,
+                len,
+                out,
+            )
         }
     }
 }

@@ -5,6 +5,7 @@ ghost use mathlib.Core.Path.{_≡_};
 ghost use Prim.Native.Nat.{_≤_};
 ghost use lib.ListN.{length};
 ghost use Rattle.rules.specs.Moves.{list-change, sublist-change, sublist-swap, permutation as permuted};
+ghost use Rattle.rules.specs.Sizes.{mostEntries};
 ghost use Rattle.moves.specs.Calls.{Places};
 
 // Each place_.. says whether the positions are good, and if they are writes the new route.
@@ -16,7 +17,7 @@ pub fn place_range(
     dest: u32,
     new: &mut [u16],
 ) -> bool
-    requires { ⌜ (length (now old) ≡ 1024) × (length (now new) ≡ 1024) × (len ≤ 1024) ⌝ }
+    requires { ⌜ (length (now old) ≡ mostEntries) × (length (now new) ≡ mostEntries) × (len ≤ mostEntries) ⌝ }
     ensures { λ r. ⌜ Places (sublist-change start end dest) len (now (old .entry)) r (now (new .exit)) ⌝ }
 {
     let a = broad(start);
@@ -36,7 +37,7 @@ pub fn place_range(
 }
 
 pub fn place_one(old: &[u16], len: usize, source: u32, dest: u32, new: &mut [u16]) -> bool
-    requires { ⌜ (length (now old) ≡ 1024) × (length (now new) ≡ 1024) × (len ≤ 1024) ⌝ }
+    requires { ⌜ (length (now old) ≡ mostEntries) × (length (now new) ≡ mostEntries) × (len ≤ mostEntries) ⌝ }
     ensures { λ r. ⌜ Places (list-change source dest) len (now (old .entry)) r (now (new .exit)) ⌝ }
 {
     let s = broad(source);
@@ -57,7 +58,7 @@ pub fn place_one(old: &[u16], len: usize, source: u32, dest: u32, new: &mut [u16
 
 // The range from a on is the left one.
 fn place_ranges(old: &[u16], len: usize, a: u32, b: u32, c: u32, d: u32, new: &mut [u16]) -> bool
-    requires { ⌜ (length (now old) ≡ 1024) × (length (now new) ≡ 1024) × (len ≤ 1024) × (a ≤ c) ⌝ }
+    requires { ⌜ (length (now old) ≡ mostEntries) × (length (now new) ≡ mostEntries) × (len ≤ mostEntries) × (a ≤ c) ⌝ }
     ensures { λ r. ⌜ Places (sublist-swap a b c d) len (now (old .entry)) r (now (new .exit)) ⌝ }
 {
     let f = broad(a);
@@ -81,7 +82,7 @@ fn place_ranges(old: &[u16], len: usize, a: u32, b: u32, c: u32, d: u32, new: &m
 }
 
 pub fn place_swap(old: &[u16], len: usize, a: u32, b: u32, c: u32, d: u32, new: &mut [u16]) -> bool
-    requires { ⌜ (length (now old) ≡ 1024) × (length (now new) ≡ 1024) × (len ≤ 1024) ⌝ }
+    requires { ⌜ (length (now old) ≡ mostEntries) × (length (now new) ≡ mostEntries) × (len ≤ mostEntries) ⌝ }
     ensures { λ r. ⌜ Places (sublist-swap a b c d) len (now (old .entry)) r (now (new .exit)) ⌝ }
 {
     if a <= c {
@@ -98,7 +99,7 @@ pub fn place_order(
     list: &[u32],
     new: &mut [u16],
 ) -> bool
-    requires { ⌜ (length (now old) ≡ 1024) × (length (now new) ≡ 1024) × (len ≤ 1024) ⌝ }
+    requires { ⌜ (length (now old) ≡ mostEntries) × (length (now new) ≡ mostEntries) × (len ≤ mostEntries) ⌝ }
     ensures { λ r. ⌜ Places (permuted start end (now (list .entry))) len (now (old .entry)) r (now (new .exit)) ⌝ }
 {
     let a = broad(start);

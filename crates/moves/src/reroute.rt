@@ -1,6 +1,7 @@
 // The new route of each move, written place by place.
+use rules::Plan;
 use stores::header::broad;
-use tables::copy;
+use words::copy;
 ghost use mathlib.Core.Path.{_≡_};
 ghost use mathlib.Core.Bool.{_&&_, true};
 ghost use mathlib.Core.List.{_++_, map};
@@ -10,6 +11,7 @@ ghost use lib.ListN.{length, getD, take, drop};
 ghost use lib.Seq.{sets};
 ghost use Rattle.rules.specs.Lists.{allBelow, distinct};
 ghost use Rattle.rules.specs.Moves.{moved, sublist-change, sublist-swap, permutation as permuted};
+ghost use Rattle.rules.specs.Sizes.{mostEntries};
 ghost use Rattle.moves.specs.Pieces.{Order, Piece, Ranges};
 
 // Places a up to b and c up to d change places.
@@ -59,10 +61,10 @@ pub fn permutation(old: &[u16], n: usize, a: usize, b: usize, list: &[u32], new:
 
 // The list holds each number below k once.
 pub fn is_permutation(list: &[u32], k: usize) -> bool
-    requires { ⌜ k ≤ 1024 ⌝ }
+    requires { ⌜ k ≤ mostEntries ⌝ }
     ensures { λ r. ⌜ r ≡ (eqb (length (now (list .entry))) k && (allBelow k (now (list .entry)) && distinct (now (list .entry)))) ⌝ }
 {
-    let mut seen = [0u8; 1024];
+    let mut seen = [0u8; Plan::ENTRIES];
     if list.len() != k {
         return false;
     }

@@ -1,22 +1,28 @@
 // Layer 5, the program: reads document 01's lines from standard input and answers each on standard output.
-// The lines up to `go` only fill tables (crate opens); `go` loads them, and each later line is one call (crate serves).
+// The lines up to `go` only fill tables; `go` loads them, and each later line is a call (crate lines).
 use libc::STDIN_FILENO;
 use libc::STDOUT_FILENO;
-use opens::gathers::Gathered;
-use opens::gathers::gather;
-use opens::steps::Typed;
+use lines::ANSWER;
+use lines::FIXES;
+use lines::INPUT;
+use lines::NUMBERS;
+use lines::goes::go;
+use lines::goes::loaded;
+use lines::opens::Gathered;
+use lines::opens::gather;
+use lines::steps::Typed;
+use lines::turns::answer_line;
 use refresh::score::Scored;
-use says::answers::bad;
-use serves::goes::go;
-use serves::goes::loaded;
-use serves::turns::answer_line;
-use text::writes::narrow;
+use rules::Plan;
+use text::answers::SHORT;
+use text::answers::bad;
+use text::fields::narrow;
 ghost use Prim.Native.Nat.{_≤_};
 ghost use lib.ListN.{length};
-ghost use Rattle.opens.specs.Steps.{Within};
+ghost use Rattle.lines.specs.Sizes.{inputLimit};
+ghost use Rattle.lines.specs.Steps.{Within};
 
 // The lines behind `go`, of which `before` came before. What a line answers goes out before the next one is read; if it can't, the run ends.
-// The longest answer is that of `crit`: a line, and 1,024 lines of a word and four numbers.
 fn serve(
     input: &[u8],
     before: u64,
@@ -27,9 +33,9 @@ fn serve(
     routes: &mut [u16],
     times: &mut [u64],
 )
-    requires { ⌜ (length (now input) ≤ 32768) × (before ≤ 32768) ⌝ }
+    requires { ⌜ (length (now input) ≤ inputLimit) × (before ≤ inputLimit) ⌝ }
 {
-    let mut space = [0u8; 98304];
+    let mut space = [0u8; ANSWER];
     let out: &mut [u8] = &mut space;
     let mut at: usize = 0;
     let mut line = before;
@@ -57,20 +63,20 @@ fn serve(
 
 // The answer to `go`. False if it can't go out.
 fn begun(answer: Scored) -> bool {
-    let mut out = [0u8; 64];
+    let mut out = [0u8; SHORT];
     let n = loaded(answer, &mut out);
     io::write_all(STDOUT_FILENO, &out[..n])
 }
 
 // `go`, on a store that is zeroed, and the lines behind it.
 fn open(input: &[u8], line: u64, plan: Typed, durations: &[u64], from: &[u32], to: &[u32])
-    requires { ⌜ (length (now input) ≤ 32768) × (line ≤ 32768) × Within plan (now durations) (now from) (now to) ⌝ }
+    requires { ⌜ (length (now input) ≤ inputLimit) × (line ≤ inputLimit) × Within plan (now durations) (now from) (now to) ⌝ }
 {
-    let mut base = [0u32; 6661];
-    let mut spans = [0u64; 512];
-    let mut edges = [0u16; 13314];
-    let mut routes = [0u16; 1794];
-    let mut times = [0u64; 514];
+    let mut base = [0u32; Plan::BASE];
+    let mut spans = [0u64; Plan::SPANS];
+    let mut edges = [0u16; Plan::EDGES];
+    let mut routes = [0u16; Plan::ROUTES];
+    let mut times = [0u64; Plan::TIMES];
     let answer = go(
         &mut base,
         &mut spans,
@@ -98,18 +104,18 @@ fn open(input: &[u8], line: u64, plan: Typed, durations: &[u64], from: &[u32], t
 
 // The only answer to lines that don't come to a `go`.
 fn refuse(line: u64) {
-    let mut out = [0u8; 64];
+    let mut out = [0u8; SHORT];
     let n = bad(&mut out, line);
     io::write_all(STDOUT_FILENO, &out[..n]);
 }
 
-// A field has two bytes or more, so a line has at most 16,383 numbers; a `fix` line has eight or more, so there are at most 4,096.
+// What the lines come to.
 fn run(input: &[u8])
-    requires { ⌜ length (now input) ≤ 32768 ⌝ }
+    requires { ⌜ length (now input) ≤ inputLimit ⌝ }
 {
-    let mut durations = [0u64; 16384];
-    let mut from = [0u32; 4096];
-    let mut to = [0u32; 4096];
+    let mut durations = [0u64; NUMBERS];
+    let mut from = [0u32; FIXES];
+    let mut to = [0u32; FIXES];
     match gather(input, &mut durations, &mut from, &mut to) {
         Gathered::Ends => {}
         Gathered::Bad(line) => refuse(line),
@@ -119,9 +125,9 @@ fn run(input: &[u8])
 
 // One byte more than the limit is asked for, so that a longer input shows.
 fn main() {
-    let mut input = [0u8; 32769];
+    let mut input = [0u8; INPUT + 1];
     let n = io::read_full(STDIN_FILENO, &mut input);
-    if 32768 < n {
+    if INPUT < n {
         refuse(0);
         return;
     }

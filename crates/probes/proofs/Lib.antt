@@ -1,6 +1,11 @@
--- Laws that belong to no one function. Assumes nothing.
-pub mod Tallied
+-- Laws. Assumes nothing.
+pub mod Chaining
+pub mod Sought
+pub mod Turning
+pub mod Nexts
+pub mod Listing
+pub mod Tallying
 pub mod Lineups
-pub mod Turnings
+pub mod Backways
 pub mod Weighed
 pub mod Judging

@@ -1,38 +1,102 @@
 -- What is on, as the words hold it, is what the rules say is on: so the verdicts are the rules' own. Assumes nothing.
-use Prim.Native.Nat.{ℕ, zero, suc, _+_, _≤_, _<_}
+use Prim.Native.Nat.{ℕ, _+_, _≤_, _<_}
 use native.Mathlib.Omega.{arith}
 use mathlib.Core.Path.{_≡_, refl, sym, ap, _∙_}
 use mathlib.Core.Bool.{Bool, true, false, cond, not, _&&_, _||_}
 use mathlib.Core.Logic.{_⊎_, inl, inr, ⊎-elim}
-use mathlib.Core.List.{List, [], _∷_, _++_, map}
+use mathlib.Core.List.{List, [], _∷_, _++_}
 use lib.Dec.{eqb}
-use lib.ListN.{getD, take}
+use lib.ListN.{replicate, getD-replicate}
 use borrow.Author.Tests.{eq-eqb, ne-eqb, not-true}
 use Rattle.rules.specs.Graphs.{Graph, Trail, end, go}
-use Rattle.rules.specs.Lists.{Once, Pair, allBelow, anyOf, isZero, keep, memb, nobody, tick, times}
-use Rattle.rules.specs.Moves.{fullCheck, leads, neighbours, occurs, quickCheck, stays}
+use Rattle.rules.specs.Lists.{Once, Pair, allBelow, anyOf, isZero, memb, nobody, tick, times}
+use Rattle.rules.specs.Moves.{fullCheck, leads, neighbours, occurs, quickCheck}
+use Rattle.rules.specs.Sizes.{mostEntries, mostJobs, pairUp}
 use Rattle.rules.proofs.Checks.{below-all, full-cycle, leads-exactly, occurs-either, occurs-first, occurs-later, quick-full, somebody, tests-same}
 use Rattle.rules.proofs.Members.{memb-append, or-true}
 use Rattle.rules.proofs.Ranges.{Test, and-true, clash, fail, nobody-false, pass, same, test}
-use Rattle.edges.specs.Edges as E
-use Rattle.edges.specs.Edges.{AllPos, Edge, Holds, Model, Wf, countOf, hasEdge, timesIn, timesOf, toOf}
-use Rattle.graphs.specs.Graph.{Below, live, outOf}
-use Rattle.graphs.proofs.Bridge.{linked, live-has}
+use Rattle.edges.specs.Edges.{Holds, Model}
+use Rattle.edges.specs.Lists.{outOf}
+use Rattle.graphs.specs.Graph.{Below, live}
+use Rattle.graphs.proofs.Bridge.{linked}
 use Rattle.graphs.proofs.Kahn.{memb-later, memb-self}
-use Rattle.kernels.specs.Lines.{Lows}
-use Rattle.views.specs.Aheads.{onOuts, staying}
-use Rattle.views.specs.Chains.{Chained, headsOf, holdsOf}
-use Rattle.probes.specs.Fulls.{OnGraph}
-use Rattle.views.specs.Gathered.{aliveIn, fixedIn, offOf, onOf}
-use Rattle.probes.specs.Judges.{onFor, staysFor, turning}
-use Rattle.probes.specs.Quicks.{closing, onEdge}
-use Rattle.views.proofs.Links.{chained-heads, chained-holds, pile}
-use Rattle.views.proofs.Turns.{on-is, on-occurs, on-once, stays-is}
+use Rattle.starts.specs.Lines.{Lows}
+use Rattle.probes.specs.Aheads.{headsOn, staying}
+use Rattle.probes.specs.Chains.{Links, Rule, along, always, headsOf, holdsOf, joined, setLength}
+use Rattle.probes.specs.Fulls.{OnGraph, onEdge, onOuts}
+use Rattle.probes.specs.Gathered.{comesOn, goesOff}
+use Rattle.probes.specs.Judges.{onFor, staysFor}
+use Rattle.probes.specs.Pairs.{Rising}
+use Rattle.probes.specs.Quicks.{closing, turning}
+use Rattle.probes.proofs.Listing.{keep-memb, keep-once}
+
+-- ── the edges of a set ──
+
+or-none : (b : Bool) → b ≡ b || false
+or-none true = refl
+or-none false = refl
+
+-- q is what decides while v is not among those that have joined
+module _ (p : Rule) (q : Graph) (w : ℕ) (by : (v : ℕ) (m : List ℕ) → memb v m ≡ false → p w v m ≡ q w v) where
+  joined-memb : (l : List Pair) (m : List ℕ) (v : ℕ) → memb v (joined p w l m) ≡ memb v m || (occurs l w v && q w v)
+  joined-memb [] m v = or-none (memb v m)
+  joined-memb ((a, b) ∷ l) m v = joined-memb l (cond (eqb w a && p a b m) (b ∷ m) m) v ∙ look (same w a)
+    where
+      new : v ≡ b → Test (memb v m) → (t : Bool) → (memb v m ≡ false → t ≡ q w v)
+          → memb v (cond t (b ∷ m) m) || (occurs l w v && q w v) ≡ memb v m || q w v
+      new e (pass x) true f = rw (eq-eqb v b e, x)
+      new e (pass x) false f = rw x
+      new e (fail x) true f = rw (eq-eqb v b e, x, ← f x)
+      new e (fail x) false f = rw (x, ← f x) (none (occurs l w v))
+        where
+          none : (y : Bool) → y && false ≡ false
+          none true = refl
+          none false = refl
+
+      old : (v ≡ b → ⊥) → (t : Bool) → memb v (cond t (b ∷ m) m) ≡ memb v m
+      old e true = rw (ne-eqb v b e)
+      old e false = refl
+
+      at-w : w ≡ a → (v ≡ b) ⊎ (v ≡ b → ⊥)
+          → memb v (cond (eqb w a && p a b m) (b ∷ m) m) || (occurs l w v && q w v)
+          ≡ memb v m || (not (isZero (tick (eqb w a && eqb v b) (times (w, v) l))) && q w v)
+      at-w e (inl f) =
+          let g : memb v m ≡ false → p a b m ≡ q w v = (λ x. rw (← e, ← f) (by v m x)) in
+          rw (eq-eqb w a e, eq-eqb v b f) (new f (test (memb v m)) (p a b m) g)
+      at-w e (inr f) = rw (eq-eqb w a e, ne-eqb v b f, old f (p a b m))
+
+      look : (w ≡ a) ⊎ (w ≡ a → ⊥)
+          → memb v (cond (eqb w a && p a b m) (b ∷ m) m) || (occurs l w v && q w v)
+          ≡ memb v m || (not (isZero (tick (eqb w a && eqb v b) (times (w, v) l))) && q w v)
+      look (inl e) = at-w e (same v b)
+      look (inr e) = rw (ne-eqb w a e)
+
+joined-once : (p : Rule) (w : ℕ) → ((u v : ℕ) (m : List ℕ) → p u v m ≡ true → memb v m ≡ false) → (l : List Pair) (m : List ℕ) → Once m
+    → Once (joined p w l m)
+joined-once p w f [] m o = o
+joined-once p w f ((a, b) ∷ l) m o = joined-once p w f l (cond (eqb w a && p a b m) (b ∷ m) m) (look (test (eqb w a && p a b m)))
+  where
+    look : Test (eqb w a && p a b m) → Once (cond (eqb w a && p a b m) (b ∷ m) m)
+    look (fail e) = rw e o
+    look (pass e) = rw e (f a b m (and-true {a = eqb w a} e .1), o)
+
+-- of a set that was empty
+abbrev blank : List ℕ
+blank = replicate setLength 0
+
+blank-heads : (w : ℕ) → w < mostJobs → headsOf blank w ≡ []
+unfolding along
+blank-heads w h = rw (getD-replicate {A = ℕ} setLength w 0 0 (omega arith))
+
+links-hold : {G : Type 0} {p : G → Rule} {l : List Pair} {k : ℕ} {c : List ℕ} → Links p l k blank c → (g : G) (q : Graph) (u v : ℕ) → u < mostJobs
+    → ((v : ℕ) (m : List ℕ) → memb v m ≡ false → p g u v m ≡ q u v) → holdsOf c u v ≡ occurs l u v && q u v
+links-hold {p = p} {l = l} L g q u v h by =
+    ap (memb v) (L .are g u h ∙ ap (joined (p g) u l) (blank-heads u h)) ∙ joined-memb (p g) q u by l [] v
 
 -- ── neighbours ──
 
 -- both ends stand in the list
-pub neighbours-in : (l : List ℕ) (u v : ℕ) → occurs (neighbours l) u v ≡ true → (memb u l ≡ true) × (memb v l ≡ true)
+neighbours-in : (l : List ℕ) (u v : ℕ) → occurs (neighbours l) u v ≡ true → (memb u l ≡ true) × (memb v l ≡ true)
 neighbours-in [] u v e = clash e refl
 neighbours-in (a ∷ []) u v e = clash e refl
 neighbours-in (a ∷ b ∷ l) u v e = look (occurs-either a b (neighbours (b ∷ l)) u v e) (neighbours-in (b ∷ l) u v)
@@ -70,14 +134,14 @@ any-some f ((a, b) ∷ l) e = look (or-true {a = f (a, b)} e) (any-some f l)
 -- ── graphs that agree below n ──
 
 module _ (n : ℕ) (E F : Graph) (agree : (u v : ℕ) → u < n → v < n → E u v ≡ F u v) where
-  pub trail-same : {u v : ℕ} {l : List ℕ} → u < n → Trail n E u l v → Trail n F u l v
+  trail-same : {u v : ℕ} {l : List ℕ} → u < n → Trail n E u l v → Trail n F u l v
   trail-same h (end q) = end q
   trail-same h (go {u} {w} hw e T) = go hw (sym (agree u w h hw) ∙ e) (trail-same hw T)
 
-  pub leads-more : (u v : ℕ) → u < n → v < n → leads n E u v ≡ true → leads n F u v ≡ true
+  leads-more : (u v : ℕ) → u < n → v < n → leads n E u v ≡ true → leads n F u v ≡ true
   leads-more u v hu hv e = let (l, T) = leads-exactly n E u v hu hv .0 e in leads-exactly n F u v hu hv .1 (l, trail-same hu T)
 
-  pub full-more : fullCheck n E ≡ true → fullCheck n F ≡ true
+  full-more : fullCheck n E ≡ true → fullCheck n F ≡ true
   full-more e =
       let (v, l, C) = full-cycle n E .0 e in
       full-cycle n F .1 (v, l, record { inside = C .inside; some = C .some; closed = trail-same (C .inside) (C .closed) })
@@ -86,162 +150,114 @@ module _ (n : ℕ) (E F : Graph) (agree : (u v : ℕ) → u < n → v < n → E 
   back : (u v : ℕ) → u < n → v < n → F u v ≡ E u v
   back u v h k = sym (agree u v h k)
 
-  pub leads-same : (u v : ℕ) → u < n → v < n → leads n E u v ≡ leads n F u v
+  leads-same : (u v : ℕ) → u < n → v < n → leads n E u v ≡ leads n F u v
   leads-same u v hu hv = tests-same (leads-more n E F agree u v hu hv) (leads-more n F E back u v hu hv)
 
-  pub full-same : fullCheck n E ≡ fullCheck n F
+  full-same : fullCheck n E ≡ fullCheck n F
   full-same = tests-same (full-more n E F agree) (full-more n F E back)
 
--- ── a live edge is one that is counted ──
-
-row-counts : (x : ℕ) (l : List Edge) → AllPos (map timesOf l) → not (isZero (timesIn x l)) ≡ E.memb x (map toOf l)
-unfolding timesIn E.memb AllPos
-row-counts x [] h = refl
-row-counts x (d ∷ l) (p, h) = look (eqb (d .to) x) (d .times) p (row-counts x l h)
-  where
-    look : (b : Bool) (k : ℕ) → 0 < k → not (isZero (timesIn x l)) ≡ E.memb x (map toOf l)
-        → not (isZero (E.pick b k (timesIn x l))) ≡ E.pick b true (E.memb x (map toOf l))
-    look true zero q ih = absurd (omega arith)
-    look true (suc k) q ih = refl
-    look false k q ih = ih
-
-pub alive-live : (m : Model) → Wf m → (u v : ℕ) → aliveIn m u v ≡ live m u v
-unfolding countOf hasEdge
-alive-live m w u v = row-counts v (getD (m .succ) u []) (w .positive u) ∙ sym (live-has m u v)
-
--- ── lists of heads ──
-
-keep-memb : (p : ℕ → Bool) (l : List ℕ) (v : ℕ) → memb v (keep p l) ≡ memb v l && p v
-keep-memb p [] v = refl
-keep-memb p (w ∷ l) v = look (same v w) (test (p w)) (keep-memb p l v)
-  where
-    look : (v ≡ w) ⊎ (v ≡ w → ⊥) → Test (p w) → memb v (keep p l) ≡ memb v l && p v
-        → memb v (cond (p w) (w ∷ keep p l) (keep p l)) ≡ (eqb v w || memb v l) && p v
-    look (inl e) (pass q) ih = rw (q, e, eq-eqb w w refl, q)
-    look (inl e) (fail q) ih = rw q (ih ∙ rw (e, q) (none (memb w l) (eqb w w || memb w l)))
-      where
-        none : (a b : Bool) → a && false ≡ b && false
-        none true true = refl
-        none true false = refl
-        none false true = refl
-        none false false = refl
-    look (inr e) (pass q) ih = rw (q, ne-eqb v w e) ih
-    look (inr e) (fail q) ih = rw (q, ne-eqb v w e) ih
-
-keep-once : (p : ℕ → Bool) (l : List ℕ) → Once l → Once (keep p l)
-keep-once p [] o = tt
-keep-once p (w ∷ l) (a, o) = look (test (p w)) (keep-once p l o)
-  where
-    look : Test (p w) → Once (keep p l) → Once (cond (p w) (w ∷ keep p l) (keep p l))
-    look (pass q) ih = rw q (keep-memb p l w ∙ rw a, ih)
-    look (fail q) ih = rw q ih
+-- ── what is on ──
 
 join-once : (l m : List ℕ) → Once l → Once m → ((v : ℕ) → memb v l ≡ true → memb v m ≡ false) → Once (l ++ m)
 join-once [] m o q f = q
 join-once (w ∷ l) m (a, o) q f =
     (memb-append w l m ∙ rw (a, f w (memb-self w l)), join-once l m o q (λ v e. f v (memb-later v w l e)))
 
--- what a chain of edges, none of them twice, holds of one tail
-pile-once : (w : ℕ) (l : List Pair) (m : List ℕ) → Once m → ((v : ℕ) → times (w, v) l + tick (memb v m) 0 ≤ 1) → Once (pile w l m)
-pile-once w [] m o f = o
-pile-once w ((a, b) ∷ l) m o f = look (same w a) (pile-once w l)
-  where
-    free : w ≡ a → Test (memb b m) → memb b m ≡ false
-    free e (fail q) = q
-    free e (pass q) =
-        let z : tick (eqb w a && eqb b b) (times (w, b) l) + tick (memb b m) 0 ≤ 1 = f b in
-        let y : suc (times (w, b) l) + 1 ≤ 1 = rw (eq-eqb w a e, eq-eqb b b refl, q) at z in
-        absurd (omega arith)
+and-all : (b : Bool) → b && true ≡ b
+and-all true = refl
+and-all false = refl
 
-    more : w ≡ a → (v : ℕ) → (v ≡ b) ⊎ (v ≡ b → ⊥) → times (w, v) l + tick (memb v (b ∷ m)) 0 ≤ 1
-    more e v (inl q) =
-        let z : tick (eqb w a && eqb v b) (times (w, v) l) + tick (memb v m) 0 ≤ 1 = f v in
-        let y : suc (times (w, v) l) + tick (memb v m) 0 ≤ 1 = rw (eq-eqb w a e, eq-eqb v b q) at z in
-        rw (eq-eqb v b q) (omega arith)
-    more e v (inr q) =
-        let z : tick (eqb w a && eqb v b) (times (w, v) l) + tick (memb v m) 0 ≤ 1 = f v in
-        let y : times (w, v) l + tick (memb v m) 0 ≤ 1 = rw (eq-eqb w a e, ne-eqb v b q) at z in
-        rw (ne-eqb v b q) y
+-- an edge is old, is new, is live and is fixed: what stays and what comes on is what is on
+on-bool : (o w a x : Bool) → (a && not (o && (not w && not x))) || (w && (not o && not a)) ≡ (w && not o) || (a && (not (o && not w) || x))
+on-bool true true true x = refl
+on-bool true true false x = refl
+on-bool true false true true = refl
+on-bool true false true false = refl
+on-bool true false false x = refl
+on-bool false true true x = refl
+on-bool false true false x = refl
+on-bool false false true x = refl
+on-bool false false false x = refl
 
-    look : (w ≡ a) ⊎ (w ≡ a → ⊥)
-        → ((m : List ℕ) → Once m → ((v : ℕ) → times (w, v) l + tick (memb v m) 0 ≤ 1) → Once (pile w l m))
-        → Once (pile w l (cond (eqb w a) (b ∷ m) m))
-    look (inl e) ih = rw (eq-eqb w a e) (ih (b ∷ m) (free e (test (memb b m)), o) (λ v. more e v (same v b)))
-    look (inr e) ih =
-        rw (ne-eqb w a e) (ih m o (λ v. let z : tick (eqb w a && eqb v b) (times (w, v) l) + tick (memb v m) 0 ≤ 1 = f v in
-        rw (ne-eqb w a e) at z))
+-- "an added edge that was not already on" is one that comes on
+fresh-bool : (o w a x : Bool) → ((w && not o) || (a && (not (o && not w) || x))) && not (a && (not (o && not w) || x)) ≡ w && (not o && not a)
+fresh-bool true true true x = refl
+fresh-bool true true false x = refl
+fresh-bool true false true true = refl
+fresh-bool true false true false = refl
+fresh-bool true false false x = refl
+fresh-bool false true true x = refl
+fresh-bool false true false x = refl
+fresh-bool false false true x = refl
+fresh-bool false false false x = refl
 
--- ── what is on ──
-
--- the edges' words, and the chains of what the sets of a move hold
-pub record Given (base : List ℕ) (fixed : ℕ) (e old new : List ℕ) (k n : ℕ) (off plus : List ℕ) (m : Model) : Type 0 where
+-- what the code has built of a move, of words that hold a model
+pub record Given (from to e old new : List ℕ) (n : ℕ) (off plus : List ℕ) (m : Model) : Type 0 where
   pub holds : Holds e m
   pub below : Below n m
-  pub jobs : n ≤ 512
-  pub low : allBelow n (take k new) ≡ true
-  pub off-chain : Chained off (offOf (neighbours (take k new)) (fixedIn fixed base) (neighbours (take k old)))
-  pub plus-chain : Chained plus (onOf (neighbours (take k old)) (aliveIn m) (neighbours (take k new)))
+  pub jobs : n ≤ mostJobs
+  pub low : allBelow n new ≡ true
+  pub rising : Rising from
+  pub olds : List ℕ
+  pub olds-are : Links always (neighbours old) mostEntries blank olds
+  pub news : List ℕ
+  pub news-are : Links always (neighbours new) mostEntries blank news
+  pub off-are : Links (goesOff from to news) (neighbours old) mostEntries blank off
+  pub plus-are : Links (comesOn e olds) (neighbours new) mostEntries blank plus
 
-module _ {base : List ℕ} {fixed : ℕ} {e old new : List ℕ} {k n : ℕ} {off plus : List ℕ} {m : Model}
-    (G : Given base fixed e old new k n off plus m) where
-  abbrev olds : List Pair
-  olds = neighbours (take k old)
+module _ {from to e old new : List ℕ} {n : ℕ} {off plus : List ℕ} {m : Model} (G : Given from to e old new n off plus m) where
+  near : {u : ℕ} → u < n → u < mostJobs
+  near h = let a = G .jobs in omega arith
 
-  abbrev news : List Pair
-  news = neighbours (take k new)
+  abbrev fixed : Graph
+  fixed = occurs (pairUp from to)
 
-  plus-is : (u v : ℕ) → u < n → holdsOf plus u v ≡ occurs news u v && (not (occurs olds u v) && not (live m u v))
+  index-is : {l : List Pair} {c : List ℕ} → Links always l mostEntries blank c → (u v : ℕ) → u < n → holdsOf c u v ≡ occurs l u v
+  unfolding always
+  index-is {l} L u v hu = links-hold L tt (λ x y. true) u v (near hu) (λ v m x. refl) ∙ and-all (occurs l u v)
+
+  off-is : (u v : ℕ) → u < n → holdsOf off u v ≡ occurs (neighbours old) u v && (not (occurs (neighbours new) u v) && not (fixed u v))
+  unfolding goesOff
+  off-is u v hu =
+      links-hold (G .off-are) (G .rising) (λ x y. not (holdsOf (G .news) x y) && not (fixed x y)) u v (near hu) (λ v m x. refl)
+      ∙ rw (index-is (G .news-are) u v hu)
+
+  plus-is : (u v : ℕ) → u < n → holdsOf plus u v ≡ occurs (neighbours new) u v && (not (occurs (neighbours old) u v) && not (live m u v))
+  unfolding comesOn
   plus-is u v hu =
-      chained-holds (G .plus-chain) u v (let a = G .jobs in omega arith) ∙ on-occurs olds news (aliveIn m) (fixedIn fixed base) u v
-      ∙ rw (alive-live m (G .holds .wf) u v)
+      links-hold (G .plus-are) (record { model = m; holds = G .holds }) (λ x y. not (holdsOf (G .olds) x y) && not (live m x y)) u v (near hu)
+      (λ v m x. rw x) ∙ rw (index-is (G .olds-are) u v hu)
 
-  pub plus-new : (u v : ℕ) → u < n → holdsOf plus u v ≡ true → occurs news u v ≡ true
-  plus-new u v hu q = and-true {a = occurs news u v} (sym (plus-is u v hu) ∙ q) .0
+  plus-new : (u v : ℕ) → u < n → holdsOf plus u v ≡ true → occurs (neighbours new) u v ≡ true
+  plus-new u v hu q = and-true {a = occurs (neighbours new) u v} (sym (plus-is u v hu) ∙ q) .0
 
-  pub new-low : (u v : ℕ) → occurs news u v ≡ true → (u < n) × (v < n)
-  new-low u v q =
-      let (a, b) = neighbours-in (take k new) u v q in
-      (below-all n (take k new) (G .low) u a, below-all n (take k new) (G .low) v b)
+  new-low : (u v : ℕ) → occurs (neighbours new) u v ≡ true → (u < n) × (v < n)
+  new-low u v q = let (a, b) = neighbours-in new u v q in (below-all n new (G .low) u a, below-all n new (G .low) v b)
 
-  -- the edges of the words are those of the rules
-  pub edge-on : (fix : Graph) → ((u v : ℕ) → u < n → v < n → fix u v ≡ fixedIn fixed base u v) → (u v : ℕ) → u < n → v < n
-      → onEdge m off plus u v ≡ onFor old new k m fix u v
-  unfolding onOuts holdsOf
-  edge-on fix f u v hu hv =
-      memb-append v (staying off u (outOf m u)) (headsOf plus u)
-      ∙ ap (λ (b : Bool). b || holdsOf plus u v) (keep-memb (λ x. not (holdsOf off u x)) (outOf m u) v
-      ∙ ap (λ (b : Bool). live m u v && not b) (chained-holds (G .off-chain) u v (let a = G .jobs in omega arith)))
-      ∙ ap (λ (b : Bool). (live m u v && not (occurs (offOf news (fixedIn fixed base) olds) u v)) || b)
-      (chained-holds (G .plus-chain) u v (let a = G .jobs in omega arith))
-      ∙ sym (on-same ∙ ap (λ (b : Bool). b || occurs (onOf olds (aliveIn m) news) u v) stays-same)
-    where
-      stays-same : stays olds news (aliveIn m) (fixedIn fixed base) u v ≡ live m u v && not (occurs (offOf news (fixedIn fixed base) olds) u v)
-      stays-same = stays-is olds news (aliveIn m) (fixedIn fixed base) u v ∙ rw (alive-live m (G .holds .wf) u v)
-
-      on-same : onFor old new k m fix u v
-          ≡ stays olds news (aliveIn m) (fixedIn fixed base) u v || occurs (onOf olds (aliveIn m) news) u v
-      on-same = rw (f u v hu hv, ← alive-live m (G .holds .wf) u v) (on-is olds news (aliveIn m) (fixedIn fixed base) u v)
+  -- of the live heads of u
+  stay-is : (u v : ℕ) → memb v (staying off u (outOf m u)) ≡ live m u v && not (holdsOf off u v)
+  stay-is u v = keep-memb (λ x. not (holdsOf off u x)) (outOf m u) v
 
   -- none of a job's heads twice, and all below n
   pub on-graph : OnGraph e off plus n m
-  unfolding onOuts holdsOf
-  on-graph = record { holds = G .holds; outs = record { once = once; low = low } }
+  unfolding comesOn headsOn
+  on-graph = record { holds = G .holds; once = once; low = low }
     where
       heads-once : (u : ℕ) → u < n → Once (headsOf plus u)
       heads-once u hu =
-          rw (chained-heads (G .plus-chain) u (let a = G .jobs in omega arith))
-          (pile-once u (onOf olds (aliveIn m) news) [] tt (λ v. let a = on-once olds news (aliveIn m) (fixedIn fixed base) u v in omega arith))
+          rw (G .plus-are .are (record { model = m; holds = G .holds }) u (near hu) ∙ ap (joined _ u (neighbours new)) (blank-heads u (near hu)))
+          (joined-once _ u (λ x y l q. not-true _ (and-true {a = not (memb y l)} (and-true {a = not (holdsOf (G .olds) x y)} q .1) .0))
+          (neighbours new) [] tt)
 
-      apart : (u : ℕ) → u < n → (v : ℕ) → memb v (staying off u (outOf m u)) ≡ true → memb v (headsOf plus u) ≡ false
-      apart u hu v q = look (test (memb v (headsOf plus u)))
+      apart : (u : ℕ) → u < n → (v : ℕ) → memb v (staying off u (outOf m u)) ≡ true → holdsOf plus u v ≡ false
+      apart u hu v q =
+          plus-is u v hu
+          ∙ rw (and-true {a = live m u v} (sym (stay-is u v) ∙ q) .0) (gone (occurs (neighbours new) u v) (not (occurs (neighbours old) u v)))
         where
-          look : Test (memb v (headsOf plus u)) → memb v (headsOf plus u) ≡ false
-          look (fail r) = r
-          look (pass r) =
-              let (a, b) = and-true {a = memb v (outOf m u)} (sym (keep-memb (λ x. not (holdsOf off u x)) (outOf m u) v) ∙ q) in
-              let (c, d) = and-true {a = occurs news u v} (sym (plus-is u v hu) ∙ r) in
-              let (g, h) = and-true {a = not (occurs olds u v)} d in
-              clash a (not-true _ h)
+          gone : (a b : Bool) → a && (b && false) ≡ false
+          gone true true = refl
+          gone true false = refl
+          gone false b = refl
 
       once : (u : ℕ) → u < n → Once (onOuts m off plus u)
       once u hu = join-once (staying off u (outOf m u)) (headsOf plus u)
@@ -250,60 +266,58 @@ module _ {base : List ℕ} {fixed : ℕ} {e old new : List ℕ} {k n : ℕ} {off
 
       low : (u : ℕ) → u < n → Lows n (onOuts m off plus u)
       low u hu v q =
-          ⊎-elim
-          (λ (r : memb v (staying off u (outOf m u)) ≡ true).
-          G .below u v (and-true {a = memb v (outOf m u)} (sym (keep-memb (λ x. not (holdsOf off u x)) (outOf m u) v) ∙ r) .0) .1)
-          (λ (r : memb v (headsOf plus u) ≡ true). new-low u v (plus-new u v hu r) .1)
+          ⊎-elim (λ (r : memb v (staying off u (outOf m u)) ≡ true). G .below u v (and-true {a = live m u v} (sym (stay-is u v) ∙ r) .0) .1)
+          (λ (r : holdsOf plus u v ≡ true). new-low u v (plus-new u v hu r) .1)
           (or-true {a = memb v (staying off u (outOf m u))} (sym (memb-append v (staying off u (outOf m u)) (headsOf plus u)) ∙ q))
 
   -- ── the verdicts ──
 
-  module _ (fix : Graph) (f : (u v : ℕ) → u < n → v < n → fix u v ≡ fixedIn fixed base u v) where
-    pub full-is : fullCheck n (onEdge m off plus) ≡ fullCheck n (onFor old new k m fix)
-    full-is = full-same n (onEdge m off plus) (onFor old new k m fix) (edge-on fix f)
+  module _ (fix : Graph) (f : (u v : ℕ) → u < n → v < n → fix u v ≡ fixed u v) where
+    abbrev on : Graph
+    on = onFor old new m fix
 
-    -- "an added edge that was not already on"
-    fresh : (u v : ℕ) → u < n → v < n → onFor old new k m fix u v && not (staysFor old new k m fix u v) ≡ holdsOf plus u v
-    fresh u v hu hv =
-        look (occurs olds u v) (occurs news u v) (live m u v) (fix u v) ∙ sym (plus-is u v hu)
-      where
-        look : (o w a x : Bool) → ((w && not o) || (a && (not (o && not w) || x))) && not (a && (not (o && not w) || x)) ≡ w && (not o && not a)
-        look true true true true = refl
-        look true true true false = refl
-        look true true false x = refl
-        look true false true true = refl
-        look true false true false = refl
-        look true false false x = refl
-        look false true true x = refl
-        look false true false x = refl
-        look false false true x = refl
-        look false false false x = refl
+    abbrev stay : Graph
+    stay = staysFor old new m fix
+
+    -- the edges of the words are those of the rules
+    edge-on : (u v : ℕ) → u < n → v < n → onEdge m off plus u v ≡ on u v
+    unfolding headsOn
+    edge-on u v hu hv =
+        memb-append v (staying off u (outOf m u)) (headsOf plus u)
+        ∙ rw (stay-is u v, off-is u v hu, plus-is u v hu, f u v hu hv)
+        (on-bool (occurs (neighbours old) u v) (occurs (neighbours new) u v) (live m u v) (fixed u v))
+
+    pub full-is : fullCheck n (onEdge m off plus) ≡ fullCheck n on
+    full-is = full-same n (onEdge m off plus) on edge-on
 
     abbrev way : ℕ → ℕ → Bool
-    way u v = (onFor old new k m fix u v && not (staysFor old new k m fix u v)) && leads n (onFor old new k m fix) v u
+    way u v = (on u v && not (stay u v)) && leads n on v u
 
-    pub quick-is : turning m off plus new k n ≡ quickCheck n (onFor old new k m fix) (staysFor old new k m fix)
-    quick-is = tests-same to from
+    way-is : (u v : ℕ) → u < n → v < n → closing n (onEdge m off plus) plus (u, v) ≡ way u v
+    way-is u v hu hv =
+        rw (
+          fresh-bool (occurs (neighbours old) u v) (occurs (neighbours new) u v) (live m u v) (fix u v),
+          plus-is u v hu,
+          leads-same n (onEdge m off plus) on edge-on v u hv hu,
+        )
+
+    pub quick-is : turning m off plus new n ≡ quickCheck n on stay
+    unfolding turning
+    quick-is = tests-same to-rules from-rules
       where
-        leads-are : (u v : ℕ) → u < n → v < n → leads n (onEdge m off plus) v u ≡ leads n (onFor old new k m fix) v u
-        leads-are u v hu hv = leads-same n (onEdge m off plus) (onFor old new k m fix) (edge-on fix f) v u hv hu
-
-        way-is : (u v : ℕ) → u < n → v < n → closing n (onEdge m off plus) plus (u, v) ≡ way u v
-        way-is u v hu hv = rw (fresh u v hu hv, leads-are u v hu hv)
-
-        to : turning m off plus new k n ≡ true → quickCheck n (onFor old new k m fix) (staysFor old new k m fix) ≡ true
-        to q =
-            let (u, v, a, b) = any-some (closing n (onEdge m off plus) plus) news q in
+        to-rules : anyOf (closing n (onEdge m off plus) plus) (neighbours new) ≡ true → quickCheck n on stay ≡ true
+        to-rules q =
+            let (u, v, a, b) = any-some (closing n (onEdge m off plus) plus) (neighbours new) q in
             let (hu, hv) = new-low u v a in
             somebody n (λ u. not (nobody n (way u))) u hu (somebody n (way u) v hv (sym (way-is u v hu hv) ∙ b))
 
-        from : quickCheck n (onFor old new k m fix) (staysFor old new k m fix) ≡ true → turning m off plus new k n ≡ true
-        from q =
+        from-rules : quickCheck n on stay ≡ true → anyOf (closing n (onEdge m off plus) plus) (neighbours new) ≡ true
+        from-rules q =
             let (u, hu, a) = nobody-false n (λ u. not (nobody n (way u))) (not-true _ q) in
             let (v, hv, b) = nobody-false n (way u) (not-true _ a) in
             let c = way-is u v hu hv ∙ b in
-            any-of (closing n (onEdge m off plus) plus) news u v (plus-new u v hu (and-true {a = holdsOf plus u v} c .0)) c
+            any-of (closing n (onEdge m off plus) plus) (neighbours new) u v (plus-new u v hu (and-true {a = holdsOf plus u v} c .0)) c
 
     -- the quick one never says yes where the full one says no
-    pub quick-then-full : turning m off plus new k n ≡ true → fullCheck n (onEdge m off plus) ≡ true
-    quick-then-full q = full-is ∙ quick-full n (onFor old new k m fix) (staysFor old new k m fix) (sym quick-is ∙ q)
+    pub quick-then-full : turning m off plus new n ≡ true → fullCheck n (onEdge m off plus) ≡ true
+    quick-then-full q = full-is ∙ quick-full n on stay (sym quick-is ∙ q)

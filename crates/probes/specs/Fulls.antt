@@ -1,93 +1,64 @@
 -- What the functions of the full check promise. Assumes nothing.
-use Prim.Native.Nat.{ℕ, zero, suc, _≤_, _<_}
+use Prim.Native.Nat.{ℕ, zero, suc, _+_, _≤_, _<_}
 use mathlib.Core.Path.{_≡_}
-use mathlib.Core.Bool.{Bool, true, false, cond}
+use mathlib.Core.Bool.{Bool}
 use mathlib.Core.List.{List, [], _∷_}
-use lib.ListN.{getD, take}
-use Rattle.rules.specs.Lists.{Once, count, isSome, memb, tick}
+use lib.ListN.{take}
+use Rattle.rules.specs.Graphs.{Graph}
+use Rattle.rules.specs.Lists.{Once, count, isSome, keep, memb}
 use Rattle.rules.specs.Routes.{edge}
+use Rattle.rules.specs.Scores.{timesIn}
 use Rattle.rules.specs.Shown.{order}
+use Rattle.rules.specs.Sizes.{mostJobs}
 use Rattle.edges.specs.Edges.{Model, Holds}
+use Rattle.edges.specs.Lists.{outOf}
 use Rattle.graphs.specs.Degrees.{Kahn}
 use Rattle.graphs.specs.Graph.{at}
-use Rattle.kernels.specs.Lines.{Kept, Lows}
-use Rattle.kernels.specs.Rows.{Short}
-use Rattle.kernels.specs.declared.rows.Tail.{Tail}
-use Rattle.kernels.specs.declared.lines.Lined.{Lined}
-use Rattle.kernels.specs.declared.lines.Lined.the-variants.{All, Stuck}
-use Rattle.views.specs.Aheads.{onOuts}
+use Rattle.starts.specs.Lines.{Lows}
+use Rattle.probes.specs.Aheads.{headsOn}
 
--- the lists of heads of n jobs: none twice, and all below n
-pub record Outs (n : ℕ) (out : ℕ → List ℕ) : Type 0 where
-  pub once : (u : ℕ) → u < n → Once (out u)
-  pub low : (u : ℕ) → u < n → Lows n (out u)
+-- of a job's edges in a model where they lead
+abbrev pub onOuts : Model → List ℕ → List ℕ → ℕ → List ℕ
+onOuts m off plus u = headsOn (outOf m u) off plus u
 
--- the edges' words and two chains stand for such lists
+-- the edges that are on
+abbrev pub onEdge : Model → List ℕ → List ℕ → Graph
+onEdge m off plus = edge (onOuts m off plus)
+
+-- the edges' words and two sets stand for lists of heads of n jobs: none twice, and all below n
 pub record OnGraph (e off plus : List ℕ) (n : ℕ) (m : Model) : Type 0 where
   pub holds : Holds e m
-  pub outs : Outs n (onOuts m off plus)
-
--- of the n jobs those, from the highest on, that lead to v
-abbrev pub presOf : (ℕ → List ℕ) → ℕ → ℕ → List ℕ
-presOf out zero v = []
-presOf out (suc k) v = cond (memb v (out k)) (k ∷ presOf out k v) (presOf out k v)
+  pub once : (u : ℕ) → u < n → Once (onOuts m off plus u)
+  pub low : (u : ℕ) → u < n → Lows n (onOuts m off plus u)
 
 -- ── how many edges lead to each job ──
 
--- with those of `rest` still to be counted
-abbrev pub Tally : (ℕ → ℕ) → ℕ → List ℕ → List ℕ → Type 0
-Tally g n rest d = (w : ℕ) → w < n → tick (memb w rest) (at d w) ≡ g w
+pub record Bumps (vs : List ℕ) (d d' : List ℕ) : Type 0 where
+  pub adds : (w : ℕ) → w < mostJobs → at d w + timesIn w vs ≤ mostJobs → at d' w ≡ at d w + timesIn w vs
 
-abbrev pub Counted : (ℕ → ℕ) → ℕ → List ℕ → List ℕ → Bool → Type 0
-Counted g n rest d true = Tally g n rest d
-Counted g n rest d false = ⊥
+-- n - 1, .. 1, 0
+abbrev pub down : ℕ → List ℕ
+down zero = []
+down (suc n) = n ∷ down n
 
-pub record Bump (v n : ℕ) (d : List ℕ) (r : Bool) (d' : List ℕ) : Type 0 where
-  pub keeps : (g : ℕ → ℕ) (rest : List ℕ) → v < n → memb v rest ≡ false → ((w : ℕ) → g w ≤ 512) → Tally g n (v ∷ rest) d
-      → Counted g n rest d' r
-
-pub record Bumps (vs : List ℕ) (n : ℕ) (d : List ℕ) (r : Bool) (d' : List ℕ) : Type 0 where
-  pub keeps : (g : ℕ → ℕ) → Once vs → Lows n vs → ((w : ℕ) → g w ≤ 512) → Tally g n vs d → Counted g n [] d' r
-
--- the edges of the first k jobs are counted
+-- how many of the first k jobs lead to w, and which
 abbrev pub leadTo : (ℕ → List ℕ) → ℕ → ℕ → ℕ
 leadTo out k w = count k (λ u. memb w (out u))
 
-pub record Tallies (e off plus : List ℕ) (u n : ℕ) (d : List ℕ) (r : Bool) (d' : List ℕ) : Type 0 where
-  pub keeps : (m : Model) → OnGraph e off plus n m → Tally (leadTo (onOuts m off plus) u) n [] d
-      → Counted (leadTo (onOuts m off plus) (suc u)) n [] d' r
+abbrev pub presOf : (ℕ → List ℕ) → ℕ → ℕ → List ℕ
+presOf out k w = keep (λ u. memb w (out u)) (down k)
 
-pub record AllTallied (e off plus : List ℕ) (n : ℕ) (d : List ℕ) (r : Bool) (d' : List ℕ) : Type 0 where
-  pub keeps : (m : Model) → OnGraph e off plus n m → ((w : ℕ) → w < n → at d w ≡ 0)
-      → Counted (leadTo (onOuts m off plus) n) n [] d' r
+-- from 0 on, the edges of the first u jobs are counted
+pub record Tallied (e off plus : List ℕ) (n u : ℕ) (d₀ d : List ℕ) : Type 0 where
+  pub is : (m : Model) → OnGraph e off plus n m → ((w : ℕ) → w < mostJobs → at d₀ w ≡ 0) → (w : ℕ) → w < mostJobs
+      → at d w ≡ leadTo (onOuts m off plus) u w
 
 -- ── the line-up ──
 
-pub record Begins (d : List ℕ) (n : ℕ) (r : Tail) (o' d' : List ℕ) : Type 0 where
-  pub short : Short r
-  pub keeps : (out : ℕ → List ℕ) → n ≤ 512 → Tally (leadTo out n) n [] d → Kept (presOf out n) n 0 [] o' d' r
+-- c has how many lead to each job: of the jobs below v those to which none leads are placed
+pub record Begins (c : List ℕ) (n v tail : ℕ) (o d : List ℕ) : Type 0 where
+  pub short : tail ≤ v
+  pub keeps : (out : ℕ → List ℕ) → ((w : ℕ) → w < n → at c w ≡ leadTo out n w) → Kahn (presOf out n) v (take tail o) 0 [] (at d)
 
-pub record Passes (e off plus : List ℕ) (u n tail : ℕ) (o d : List ℕ) (r : Tail) (o' d' : List ℕ) : Type 0 where
-  pub short : Short r
-  pub keeps : (m : Model) → OnGraph e off plus n m → (h : ℕ) → h < tail → u ≡ getD o h 0
-      → Kahn (presOf (onOuts m off plus) n) n (take tail o) h [] (at d)
-      → Kept (presOf (onOuts m off plus) n) n (suc h) [] o' d' r
-
--- there is a line-up, or there is none
-abbrev pub linedOf : Bool → Lined
-linedOf true = All
-linedOf false = Stuck
-
-abbrev pub lines : Model → List ℕ → List ℕ → ℕ → Bool
-lines m off plus n = isSome (order n (edge (onOuts m off plus)))
-
-pub record Drains (e off plus : List ℕ) (n tail : ℕ) (o d : List ℕ) (r : Lined) : Type 0 where
-  pub is : (m : Model) → OnGraph e off plus n m → Kahn (presOf (onOuts m off plus) n) n (take tail o) 0 [] (at d)
-      → r ≡ linedOf (lines m off plus n)
-
--- from how many edges lead to each job
-pub record Placed (e off plus d : List ℕ) (n : ℕ) (r : Lined) : Type 0 where
-  pub is : (m : Model) → OnGraph e off plus n m → Tally (leadTo (onOuts m off plus) n) n [] d → r ≡ linedOf (lines m off plus n)
-
-pub record Lines (e off plus : List ℕ) (n : ℕ) (r : Lined) : Type 0 where
-  pub is : (m : Model) → OnGraph e off plus n m → r ≡ linedOf (lines m off plus n)
+pub record Lines (e off plus : List ℕ) (n : ℕ) (r : Bool) : Type 0 where
+  pub is : (m : Model) → OnGraph e off plus n m → r ≡ isSome (order n (onEdge m off plus))

@@ -1,220 +1,133 @@
 // The full check: a line-up by degrees over what is on.
-use edges::spans::Row;
-use edges::spans::ends;
-use edges::spans::wide;
-use kernels::lines::Lined;
-use kernels::lines::enter;
-use kernels::lines::relax;
-use kernels::rows::Tail;
-use views::heads::Head;
-use views::heads::head_from;
+use crate::heads::Head;
+use crate::heads::head_from;
+use edges::lists::successors;
+use rules::Plan;
+use starts::lineup::enter;
+use starts::lineup::relax;
+use words::wide;
 ghost use mathlib.Core.Path.{_≡_};
+ghost use mathlib.Core.List.{_∷_, []};
 ghost use Prim.Native.Nat.{_≤_, _<_};
 ghost use lib.ListN.{length};
-ghost use Rattle.kernels.specs.Lines.{Tells};
-ghost use Rattle.views.specs.Aheads.{Lent, headsFrom};
-ghost use Rattle.probes.specs.Fulls.{AllTallied, Begins, Bump, Bumps, Drains, Lines, Passes, Placed, Tallies};
+ghost use Rattle.rules.specs.Sizes.{edgesLength, mostEntries, mostJobs};
+ghost use Rattle.starts.specs.Lines.{Tells};
+ghost use Rattle.probes.specs.Aheads.{headsOn};
+ghost use Rattle.probes.specs.Chains.{Falls};
+ghost use Rattle.probes.specs.Fulls.{Begins, Bumps, Lines, Tallied};
 
-// One more edge leads to v.
-fn bump(deg: &mut [u16], v: u16, n: usize) -> bool
-    requires { ⌜ (length (now deg) ≡ 512) × (n ≤ 512) ⌝ }
-    ensures { λ r. ⌜ Bump v n (now (deg .entry)) r (now (deg .exit)) ⌝ }
+// One more edge leads to v. A number that is no job is passed over.
+fn bump(deg: &mut [u16], v: u16)
+    requires { ⌜ length (now deg) ≡ mostJobs ⌝ }
+    ensures { λ _. ⌜ Bumps (v ∷ []) (now (deg .entry)) (now (deg .exit)) ⌝ }
 {
     let k = wide(v);
-    if n <= k {
-        return false;
+    if Plan::JOBS <= k {
+        return;
     }
     let d = deg[k];
-    if 512 <= d {
-        return false;
-    }
-    deg[k] = d + 1;
-    true
+    deg[k] = std::num::wrapping_add_u16(d, 1);
 }
 
-// The same for each edge of u that is on, from place f of its row on.
-fn bumps(
-    e: &[u16],
-    off: &[u16],
-    plus: &[u16],
-    deg: &mut [u16],
-    u: u16,
-    f: usize,
-    t: usize,
-    n: usize,
-) -> bool
-    requires { ⌜ Lent (now e) (now off) (now plus) × (length (now deg) ≡ 512) × (u < 512) × (t ≤ 4096) × (n ≤ 512) ⌝ }
-    ensures { λ r. ⌜ Bumps (headsFrom (now (e .entry)) (now (off .entry)) (now (plus .entry)) u t f) n
-        (now (deg .entry)) r (now (deg .exit)) ⌝ }
+// The same for each job to which an edge from u leads that is on.
+fn bumps(row: &[u16], off: &[u16], plus: &[u16], u: u16, deg: &mut [u16])
+    requires { ⌜ Falls mostEntries (now off) × Falls mostEntries (now plus) × (u < mostJobs) × (length (now deg) ≡ mostJobs) ⌝ }
+    ensures { λ _. ⌜ Bumps (headsOn (now (row .entry)) (now (off .entry)) (now (plus .entry)) u) (now (deg .entry)) (now (deg .exit)) ⌝ }
 {
-    let mut at = f;
+    let mut k: usize = 0;
+    let mut at = wide(plus[wide(u)]);
     loop {
-        match head_from(e, off, plus, u, t, at) {
-            Head::End => return true,
-            Head::To(v, x) => {
-                if !bump(deg, v, n) {
-                    return false;
-                }
-                at = x;
+        match head_from(row, off, plus, u, k, at) {
+            Head::End => return,
+            Head::To(v, x, y) => {
+                bump(deg, v);
+                k = x;
+                at = y;
             }
         }
     }
 }
 
-fn tally(e: &[u16], off: &[u16], plus: &[u16], deg: &mut [u16], u: usize, n: usize) -> bool
-    requires { ⌜ Lent (now e) (now off) (now plus) × (length (now deg) ≡ 512) × (u < n) × (n ≤ 512) ⌝ }
-    ensures { λ r. ⌜ Tallies (now (e .entry)) (now (off .entry)) (now (plus .entry)) u n (now (deg .entry)) r (now (deg .exit)) ⌝ }
-{
-    match ends(e, 0, u) {
-        Row::Bad => false,
-        Row::Is(f, t) => bumps(e, off, plus, deg, u as u16, f, t, n),
-    }
-}
-
 // How many edges that are on lead to each job.
-fn tallies(e: &[u16], off: &[u16], plus: &[u16], deg: &mut [u16], n: usize) -> bool
-    requires { ⌜ Lent (now e) (now off) (now plus) × (length (now deg) ≡ 512) × (n ≤ 512) ⌝ }
-    ensures { λ r. ⌜ AllTallied (now (e .entry)) (now (off .entry)) (now (plus .entry)) n (now (deg .entry)) r (now (deg .exit)) ⌝ }
+fn tally(e: &[u16], off: &[u16], plus: &[u16], deg: &mut [u16], n: usize)
+    requires { ⌜ (length (now e) ≡ edgesLength) × Falls mostEntries (now off) × Falls mostEntries (now plus)
+        × (length (now deg) ≡ mostJobs) × (n ≤ mostJobs) ⌝ }
+    ensures { λ _. ⌜ Tallied (now (e .entry)) (now (off .entry)) (now (plus .entry)) n n (now (deg .entry)) (now (deg .exit)) ⌝ }
 {
     let mut u: usize = 0;
     while u < n {
-        if !tally(e, off, plus, deg, u, n) {
-            return false;
-        }
-        u += 1;
+        bumps(successors(e, u), off, plus, u as u16, deg);
+        u = u + 1;
     }
-    true
 }
 
 // Those to which none leads start the order.
-fn begin(count: &[u16], order: &mut [u16], deg: &mut [u16], n: usize) -> Tail
-    requires { ⌜ (length (now count) ≡ 512) × (length (now order) ≡ 512) × (length (now deg) ≡ 512) × (n ≤ 512) ⌝ }
-    ensures { λ r. ⌜ Begins (now (count .entry)) n r (now (order .exit)) (now (deg .exit)) ⌝ }
+fn begin(count: &[u16], order: &mut [u16], deg: &mut [u16], n: usize) -> usize
+    requires { ⌜ (length (now count) ≡ mostJobs) × (length (now order) ≡ mostJobs) × (length (now deg) ≡ mostJobs) × (n ≤ mostJobs) ⌝ }
+    ensures { λ r. ⌜ Begins (now (count .entry)) n n r (now (order .exit)) (now (deg .exit)) ⌝ }
 {
     let mut tail: usize = 0;
     let mut v: usize = 0;
     while v < n {
         let k = wide(count[v]);
-        if 512 < k {
-            return Tail::Bad;
+        if Plan::JOBS < k {
+            return tail;
         }
         tail = enter(order, deg, v, k, tail);
-        v += 1;
+        v = v + 1;
     }
-    Tail::Is(tail)
+    tail
 }
 
-// The heads of u have one predecessor less to wait for.
-fn relaxes(
-    e: &[u16],
+// The heads of u that are on have one predecessor less to wait for.
+fn tells(
+    row: &[u16],
     off: &[u16],
     plus: &[u16],
+    u: u16,
     order: &mut [u16],
     deg: &mut [u16],
-    u: u16,
-    f: usize,
-    t: usize,
-    n: usize,
     start: usize,
-) -> Tail
-    requires { ⌜ Lent (now e) (now off) (now plus) × (length (now order) ≡ 512) × (length (now deg) ≡ 512)
-        × (u < 512) × (t ≤ 4096) × (n ≤ 512) × (start ≤ 512) ⌝ }
-    ensures { λ r. ⌜ Tells (headsFrom (now (e .entry)) (now (off .entry)) (now (plus .entry)) u t f) n start
+) -> usize
+    requires { ⌜ Falls mostEntries (now off) × Falls mostEntries (now plus) × (u < mostJobs)
+        × (length (now order) ≡ mostJobs) × (length (now deg) ≡ mostJobs) × (start ≤ mostJobs) ⌝ }
+    ensures { λ r. ⌜ Tells (headsOn (now (row .entry)) (now (off .entry)) (now (plus .entry)) u) start
         (now (order .entry)) (now (deg .entry)) r (now (order .exit)) (now (deg .exit)) ⌝ }
 {
     let mut tail = start;
-    let mut at = f;
+    let mut k: usize = 0;
+    let mut at = wide(plus[wide(u)]);
     loop {
-        match head_from(e, off, plus, u, t, at) {
-            Head::End => return Tail::Is(tail),
-            Head::To(v, x) => {
-                match relax(order, deg, v, n, tail) {
-                    Tail::Bad => return Tail::Bad,
-                    Tail::Is(y) => tail = y,
-                }
-                at = x;
+        match head_from(row, off, plus, u, k, at) {
+            Head::End => return tail,
+            Head::To(v, x, y) => {
+                tail = relax(order, deg, v, tail);
+                k = x;
+                at = y;
             }
         }
     }
 }
 
-// Job u is passed.
-fn pass(
-    e: &[u16],
-    off: &[u16],
-    plus: &[u16],
-    order: &mut [u16],
-    deg: &mut [u16],
-    u: u16,
-    n: usize,
-    tail: usize,
-) -> Tail
-    requires { ⌜ Lent (now e) (now off) (now plus) × (length (now order) ≡ 512) × (length (now deg) ≡ 512)
-        × (n ≤ 512) × (tail ≤ 512) ⌝ }
-    ensures { λ r. ⌜ Passes (now (e .entry)) (now (off .entry)) (now (plus .entry)) u n tail
-        (now (order .entry)) (now (deg .entry)) r (now (order .exit)) (now (deg .exit)) ⌝ }
+// Whether what is on has a line-up.
+pub fn lines_up(e: &[u16], off: &[u16], plus: &[u16], n: usize) -> bool
+    requires { ⌜ (length (now e) ≡ edgesLength) × Falls mostEntries (now off) × Falls mostEntries (now plus) × (n ≤ mostJobs) ⌝ }
+    ensures { λ r. ⌜ Lines (now (e .entry)) (now (off .entry)) (now (plus .entry)) n r ⌝ }
 {
-    let k = wide(u);
-    if n <= k {
-        return Tail::Bad;
-    }
-    match ends(e, 0, k) {
-        Row::Bad => Tail::Bad,
-        Row::Is(f, t) => relaxes(e, off, plus, order, deg, u, f, t, n, tail),
-    }
-}
-
-// Job after job of the order, of which the first `start` places are filled.
-fn drain(
-    e: &[u16],
-    off: &[u16],
-    plus: &[u16],
-    order: &mut [u16],
-    deg: &mut [u16],
-    n: usize,
-    start: usize,
-) -> Lined
-    requires { ⌜ Lent (now e) (now off) (now plus) × (length (now order) ≡ 512) × (length (now deg) ≡ 512)
-        × (n ≤ 512) × (start ≤ 512) ⌝ }
-    ensures { λ r. ⌜ Drains (now (e .entry)) (now (off .entry)) (now (plus .entry)) n start (now (order .entry)) (now (deg .entry)) r ⌝ }
-{
-    let mut tail = start;
+    let mut count = [0u16; Plan::JOBS];
+    let mut order = [0u16; Plan::JOBS];
+    let mut deg = [0u16; Plan::JOBS];
+    tally(e, off, plus, &mut count, n);
+    let mut tail = begin(&count, &mut order, &mut deg, n);
     let mut head: usize = 0;
     while head < tail {
         let u = order[head];
-        match pass(e, off, plus, order, deg, u, n, tail) {
-            Tail::Bad => return Lined::Bad,
-            Tail::Is(x) => tail = x,
+        let k = wide(u);
+        if n <= k {
+            return false;
         }
-        head += 1;
+        tail = tells(successors(e, k), off, plus, u, &mut order, &mut deg, tail);
+        head = head + 1;
     }
-    if tail == n {
-        return Lined::All;
-    }
-    Lined::Stuck
-}
-
-// The edges are counted: whether what is on has a line-up.
-fn placed(e: &[u16], off: &[u16], plus: &[u16], count: &[u16], n: usize) -> Lined
-    requires { ⌜ Lent (now e) (now off) (now plus) × (length (now count) ≡ 512) × (n ≤ 512) ⌝ }
-    ensures { λ r. ⌜ Placed (now (e .entry)) (now (off .entry)) (now (plus .entry)) (now (count .entry)) n r ⌝ }
-{
-    let mut order = [0u16; 512];
-    let mut deg = [0u16; 512];
-    match begin(count, &mut order, &mut deg, n) {
-        Tail::Bad => Lined::Bad,
-        Tail::Is(tail) => drain(e, off, plus, &mut order, &mut deg, n, tail),
-    }
-}
-
-// Whether what is on has a line-up.
-pub fn lines_up(e: &[u16], off: &[u16], plus: &[u16], n: usize) -> Lined
-    requires { ⌜ Lent (now e) (now off) (now plus) × (n ≤ 512) ⌝ }
-    ensures { λ r. ⌜ Lines (now (e .entry)) (now (off .entry)) (now (plus .entry)) n r ⌝ }
-{
-    let mut count = [0u16; 512];
-    if !tallies(e, off, plus, &mut count, n) {
-        return Lined::Bad;
-    }
-    placed(e, off, plus, &count, n)
+    tail == n
 }

@@ -1,4 +1,9 @@
-// Layer 4: the two checks of a move, over the edges that are on.
+// Layer 4: which edges are on after a move, seen through a view of the live lists, and both checks over them. Nothing is copied.
+mod chain;
 pub mod checks;
-pub mod full;
-pub mod quick;
+mod fixed;
+mod full;
+mod heads;
+mod quick;
+mod sets;
+mod view;

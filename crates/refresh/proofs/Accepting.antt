@@ -1,6 +1,5 @@
 -- The first score of a plan, and how load keeps its promise, whatever the store holds. Assumes nothing.
 use Prim.Native.Nat.{ℕ, _≤_}
-use native.Mathlib.Omega.{arith}
 use mathlib.Core.Path.{_≡_, sym, ap, _∙_}
 use mathlib.Core.Bool.{Bool, true, false}
 use mathlib.Core.Option.{none}
@@ -8,24 +7,22 @@ use mathlib.Core.List.{List, [], _++_}
 use lib.ListN.{length, take, drop}
 use lib.Seq.{sets}
 use Rattle.rules.specs.declared.Refusal.{Refusal}
-use Rattle.rules.specs.declared.Refusal.the-variants.{ShortStore, BadStore}
-use Rattle.rules.specs.Sizes.{Loading, isShort, baseOf, edgesLength, timesLength}
+use Rattle.rules.specs.declared.Report.{Report}
+use Rattle.rules.specs.declared.Refusal.the-variants.{ShortStore}
+use Rattle.rules.specs.Sizes.{Loading, isShort, baseOf, edgesLength, spansLength, timesLength}
 use Rattle.rules.specs.Refusals.{firstOf, loadChecks}
 use Rattle.rules.specs.Routes.{Plan, State, fresh}
 use Rattle.rules.specs.Calls.{refused, to-load, refusal, accepted, changeOf}
 use Rattle.rules.proofs.Refused.{accepted-step}
-use Rattle.times.specs.declared.settle.Settled.{Settled}
-use Rattle.times.specs.declared.settle.Settled.the-variants.{Bad}
 use Rattle.times.specs.Words.{timeWords}
 use Rattle.times.specs.Settles.{Given, Renews}
 use Rattle.stores.specs.declared.score.Scored.{Scored}
-use Rattle.stores.specs.declared.score.Scored.the-variants.{Refused}
 use Rattle.stores.specs.Promise.{Slices, slices, lentOf, callOf, Held, after, answerOf, AnyPromise}
 use Rattle.refresh.specs.declared.load.Checked.{Checked}
 use Rattle.refresh.specs.declared.load.Checked.the-variants.{Fine, Refused as Unfit}
 use Rattle.refresh.specs.Loads.{checkedAs}
 use Rattle.stores.specs.Says.{saysScored}
-use Rattle.stores.specs.Sums.{ScoredBy, scoredAt}
+use Rattle.stores.specs.Sums.{ScoredBy}
 use Rattle.refresh.specs.Fills.{Loadable, Over, Untimed, Rated, Rates, Filled}
 use Rattle.refresh.proofs.Checking.{checked-none, checked-some}
 use Rattle.stores.proofs.Openings.{long}
@@ -36,15 +33,10 @@ use Rattle.refresh.proofs.Fresh.{over}
 -- ── the first score ──
 
 module _ {b s e r : List ℕ} {m n : ℕ} (same : m ≡ n) where
-  given : (p : Plan) → Untimed p b s e r n → Given p (take edgesLength e) (take 512 s) m
+  given : (p : Plan) → Untimed p b s e r n → Given p (take edgesLength e) (take spansLength s) m
   given p U = record { sound = U .desk .sound; edges = U .desk .edges; spans = U .spans; jobs = same ∙ U .jobs }
 
-  pub rates-bad : {t t′ ts : List ℕ} → Renews (take edgesLength e) (take 512 s) m Bad ts → Rates b s e r t n (Refused BadStore) t′
-  rates-bad R = record {
-    is = λ p U. let q = R .is p (given p U) .report in let z : _≡_ {A = ℕ} 0 1 = cc in absurd (omega arith);
-  }
-
-  pub rates-is : {t ts : List ℕ} {w : Settled} {x : Scored} → Renews (take edgesLength e) (take 512 s) m w ts → length ts ≡ timesLength
+  pub rates-is : {t ts : List ℕ} {w : Report} {x : Scored} → Renews (take edgesLength e) (take spansLength s) m w ts → length ts ≡ timesLength
       → ScoredBy b r (ts ++ drop timesLength t) n x → Rates b s e r t n x (ts ++ drop timesLength t)
   rates-is {t} {ts} {x = x} R k S = record { is = rated }
     where
@@ -56,7 +48,7 @@ module _ {b s e r : List ℕ} {m n : ℕ} (same : m ≡ n) where
           let H : Held (slices b s e r (ts ++ drop timesLength t)) p
           = record { base = U .base; spans = U .spans; desk = U .desk; times = O .front } in
           record {
-            says = S .is ∙ ap (scoredAt b r (ts ++ drop timesLength t)) (U .jobs) ∙ scored-held (slices b s e r (ts ++ drop timesLength t)) p H;
+            says = scored-held (slices b s e r (ts ++ drop timesLength t)) p H S (U .jobs);
             times = O;
           }
 

@@ -17,13 +17,12 @@ use Rattle.rules.proofs.Members.{or-false}
 use Rattle.rules.proofs.History.{Passed, passed, load-loaded, fresh-sound}
 use Rattle.routes.proofs.Freshly.{fresh-routes}
 use Rattle.routes.proofs.Wellformed.{has-words}
-use Rattle.bulk.specs.Fixed.{Fixing, Written}
-use Rattle.bulk.proofs.Freshness.{fresh-held}
+use Rattle.edges.specs.Fixed.{Fixing, Written}
+use Rattle.edges.proofs.Freshness.{fresh-held}
 use Rattle.times.specs.Words.{spanWords}
 use Rattle.stores.specs.declared.score.Scored.{Scored}
-use Rattle.stores.specs.Words.{padded, baseWords}
+use Rattle.stores.specs.Words.{padded, baseWords, baseLaid}
 use Rattle.stores.specs.Promise.{Slices, slices, holding}
-use Rattle.stores.specs.Words.{baseLaid}
 use Rattle.refresh.specs.Fills.{Over, Laid, Rated, Rates, Filled}
 use Rattle.refresh.proofs.Checking.{Sized, sized}
 use Rattle.stores.proofs.Laying.{base-laid, spans-words, padded-length, in-front}

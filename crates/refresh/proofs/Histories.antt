@@ -32,7 +32,9 @@ use Rattle.routes.proofs.Wellformed.{has-words}
 use Rattle.stores.specs.Promise.{Slices, lentOf, callOf, Stands, StandsFor, holding, unmarked, leaving, after, Decided}
 use Rattle.refresh.specs.History.{lent, back, Kept, Made, done, call, replies, Begins, zeroed, loaded, reset, Shows, a-cycle, a-line-up, Never, Answered}
 use Rattle.stores.proofs.Openings.{long}
-use Rattle.refresh.proofs.Lengths.{base-long, spans-long, edges-long, routes-long, times-long}
+use Rattle.refresh.proofs.Lengths.{base-long, spans-long, times-long}
+use Rattle.edges.proofs.Store.{encode-long as edges-long}
+use Rattle.routes.proofs.Placing.{encode-long as routes-long}
 
 -- ── the part of a slice that is lent ──
 
@@ -99,7 +101,7 @@ module _ (k : Lent) (s : Slices) where
     base = given-back baseLength (k .base) (baseWords (q .base)) (s .base) (base-long (q .base) (S .loaded));
     spans = given-back 512 (k .spans) (spanWords (q .base)) (s .spans) (spans-long (q .base));
     desk = rw (
-      given-back routesLength (k .routes) (routeWords (routesOf q)) (s .routes) (routes-long (D .routes)),
+      given-back routesLength (k .routes) (routeWords (routesOf q)) (s .routes) (routes-long (routesOf q) (D .routes .wf)),
       given-back edgesLength (k .edges) (edgeWords (edgesOf q)) (s .edges) (edges-long (edgesOf q) (D .edges .wf)),
     ) D;
     times = given-back timesLength (k .times) (timeWords q) (s .times) (times-long q);
@@ -107,7 +109,7 @@ module _ (k : Lent) (s : Slices) where
 
 -- ── one call ──
 
-stands-sound : (s : Slices) (t : State) → Stands s t → Soundly t
+pub stands-sound : (s : Slices) (t : State) → Stands s t → Soundly t
 stands-sound s none S = tt
 stands-sound s (some p) H = H .desk .sound
 

@@ -26,14 +26,13 @@ use Rattle.rules.specs.Sound.{Loaded}
 use Rattle.rules.proofs.Ranges.{lt-or-le}
 use Rattle.rules.proofs.Refused.{accepted-step}
 use Rattle.puts.specs.declared.put.Outcome as outcome
-use Rattle.asks.specs.declared.ask.Ask.{Ask}
-use Rattle.asks.specs.declared.ask.Ask.the-variants.{Fine}
-use Rattle.asks.specs.declared.ask.Ask.the-variants as asking
-use Rattle.asks.specs.Asks.{askOf}
-use Rattle.asks.specs.Snapped.{Stated}
+use Rattle.routes.specs.declared.ask.Ask.{Ask}
+use Rattle.routes.specs.declared.ask.Ask.the-variants.{Fine}
+use Rattle.routes.specs.declared.ask.Ask.the-variants as asking
+use Rattle.routes.specs.Asks.{askOf}
+use Rattle.routes.specs.Snapped.{Stated}
 use Rattle.puts.specs.Puts.{Asked, PutPromised}
-use Rattle.asks.proofs.Asking.{refusalOf, ask-is, ask-owner, ask-many}
-use Rattle.times.specs.declared.settle.Settled as settled
+use Rattle.routes.proofs.Asking.{refusalOf, ask-is, ask-owner, ask-many}
 use Rattle.times.specs.Words.{spanWords}
 use Rattle.times.specs.Settles.{Refreshes, Refreshed}
 use Rattle.stores.specs.declared.header.Header.{Header}
@@ -43,16 +42,17 @@ use Rattle.refresh.specs.declared.put.Followed.{Followed}
 use Rattle.refresh.specs.declared.put.Followed.the-variants.{Is, Refused as Unfollowed}
 use Rattle.refresh.specs.declared.put.Changed.{Changed}
 use Rattle.refresh.specs.declared.put.Changed.the-variants.{By, Refused}
-use Rattle.stores.specs.Words.{baseWords, padded, froms, tos}
+use Rattle.stores.specs.Words.{baseWords, padded, froms, tos, expectedAt}
 use Rattle.stores.specs.Headers.{openOf, countsOf}
 use Rattle.stores.specs.Promise.{checksBy, Heeds, Slices, slices, lentOf, callOf, Held, holding, after, Decided, Promise}
-use Rattle.stores.specs.Sums.{scoredAt}
+use Rattle.stores.specs.Sums.{ScoredBy}
 use Rattle.refresh.specs.Changes.{saysChanged, Worded, Puts, Follows, Changes}
-use Rattle.stores.proofs.Tabled.{table-at, part-slice}
+use Rattle.edges.proofs.Listing.{between}
+use Rattle.rules.proofs.Tabled.{table-at}
 use Rattle.stores.proofs.Laying.{padded-length}
 use Rattle.stores.proofs.Openings.{Opened, open-is}
 use Rattle.stores.proofs.Promises.{closed-kept, opened-kept, decided-refused, refusal-long, held-same, heeds-first, heeds-later}
-use Rattle.stores.proofs.Scores.{scored-held, scored-twelve}
+use Rattle.stores.proofs.Scores.{scored-held}
 
 -- of two constructors that are said to be equal `cc` makes this
 never : {A : Type 0} → _≡_ {A = ℕ} 0 1 → A
@@ -64,7 +64,7 @@ module _ (b : Base) (few : length (b .fixed) ≤ mostFixed) where
   abbrev ahead : List ℕ
   ahead = 1 ∷ b .jobs ∷ b .owners ∷ length (b .fixed) ∷ invalidFixed b ∷ (padded mostFixed (froms b) ++ padded mostFixed (tos b))
 
-  ahead-length : length ahead ≡ 6149
+  ahead-length : length ahead ≡ expectedAt
   ahead-length =
       let f = length-map (b .fixed) (λ (e : Pair). e .0) in
       let t = length-map (b .fixed) (λ (e : Pair). e .1) in
@@ -73,17 +73,17 @@ module _ (b : Base) (few : length (b .fixed) ≤ mostFixed) where
       let z = length-append (padded mostFixed (froms b)) (padded mostFixed (tos b)) in
       omega arith
 
-  behind-ahead : drop 6149 (baseWords b) ≡ table mostJobs (expectedOf b)
+  behind-ahead : drop expectedAt (baseWords b) ≡ table mostJobs (expectedOf b)
   unfolding baseWords
   behind-ahead =
-      ap (λ (l : List ℕ). drop 6149 (1 ∷ b .jobs ∷ b .owners ∷ length (b .fixed) ∷ invalidFixed b ∷ l))
+      ap (λ (l : List ℕ). drop expectedAt (1 ∷ b .jobs ∷ b .owners ∷ length (b .fixed) ∷ invalidFixed b ∷ l))
       (sym (append-assoc (padded mostFixed (froms b)) (padded mostFixed (tos b)) (table mostJobs (expectedOf b))))
-      ∙ drop-at ahead (table mostJobs (expectedOf b)) 6149 ahead-length
+      ∙ drop-at ahead (table mostJobs (expectedOf b)) expectedAt ahead-length
 
-stated : (b : Base) (l : List ℕ) → Loaded b → take baseLength l ≡ baseWords b → Stated (b .jobs) (take 512 (drop 6149 l)) b
+stated : (b : Base) (l : List ℕ) → Loaded b → take baseLength l ≡ baseWords b → Stated (b .jobs) (take mostJobs (drop expectedAt l)) b
 stated b l L e v h =
-    ap (λ (x : List ℕ). getD x v nobodys) (part-slice 6149 baseLength l (omega arith) ∙ ap (drop 6149) e ∙ behind-ahead b (L .fixed))
-    ∙ table-at mostJobs (expectedOf b) v nobodys (let x = L .jobs in omega arith)
+    ap (λ (x : List ℕ). getD x v nobodys) (between expectedAt baseLength l (omega arith) ∙ ap (drop expectedAt) e ∙ behind-ahead b (L .fixed))
+    ∙ table-at mostJobs (expectedOf b) nobodys v (let x = L .jobs in omega arith)
 
 -- a put leaves the base
 put-base : (p : Plan) (o : ℕ) (l : List ℕ) → putPlan p o l .base ≡ p .base
@@ -92,15 +92,15 @@ put-base p o l = refl
 
 -- ── the routes and the edges change, and the times follow ──
 
-module _ {base sp e r ts e′ r′ came came′ went went′ gone gone′ : List ℕ} {n o : ℕ} {l : List ℕ} {a : outcome.Outcome}
-    (P : PutPromised r e (take 512 (drop 6149 base)) n o l r′ e′ came came′ went went′ gone gone′ a) where
-  asked : (p : Plan) → Puts (slices base sp e r ts) n o l p → Asked r e p (take 512 (drop 6149 base)) n o
+module _ {base sp e r ts e′ r′ came came′ went went′ gone gone′ xs : List ℕ} {n o : ℕ} {l : List ℕ} {a : outcome.Outcome}
+    (P : PutPromised r e xs n o l r′ e′ came came′ went went′ gone gone′ a) (X : xs ≡ take mostJobs (drop expectedAt base)) where
+  asked : (p : Plan) → Puts (slices base sp e r ts) n o l p → Asked r e p xs n o
   asked p A = record {
     desked = A .worded .desk;
     owner = A .owner;
     jobs = A .jobs;
-    stated = subst (λ (k : ℕ). Stated k (take 512 (drop 6149 base)) (p .base)) (sym (A .jobs))
-        (stated (p .base) base (A .worded .desk .sound .loaded) (A .worded .base));
+    stated = rw X (subst (λ (k : ℕ). Stated k (take mostJobs (drop expectedAt base)) (p .base)) (sym (A .jobs))
+        (stated (p .base) base (A .worded .desk .sound .loaded) (A .worded .base)));
   }
 
   -- a store that no calls could have left
@@ -118,7 +118,7 @@ module _ {base sp e r ts e′ r′ came came′ went went′ gone gone′ : List
     stays = λ k e. inr (cc, let (y, z) = P .stays q in rw (y, z));
   }
 
-  module _ {c w g m : ℕ} {x : settled.Settled} {ts′ : List ℕ} (q : a ≡ outcome.the-variants.Done c w g)
+  module _ {c w g m : ℕ} {x : Report} {ts′ : List ℕ} (q : a ≡ outcome.the-variants.Done c w g)
       (R : Refreshes e′ sp ts (take c came′ ++ (take w went′ ++ take g gone′)) (take c came′) m x ts′) (j : m ≡ n) where
     refreshed : (p : Plan) → Puts (slices base sp e r ts) n o l p → (h : inForce (putPlan p o l .desk .routes) ≤ mostEntries)
         → Refreshed p o l x ts′
@@ -141,18 +141,10 @@ module _ {base sp e r ts e′ r′ came came′ went went′ gone gone′ : List
     no-full : (p : Plan) → Puts (slices base sp e r ts) n o l p → mostEntries < inForce (putPlan p o l .desk .routes) → ⊥
     no-full p A h = let d = P .full p (asked p A) h .0 in never cc
 
-    pub follow-lost : x ≡ settled.the-variants.Bad → {s′ : Slices} → Follows (slices base sp e r ts) s′ n o l (Unfollowed BadStore)
-    follow-lost y = record {
-      done = λ p A h. let d = refreshed p A h .report in never cc;
-      full = λ p A h. absurd (no-full p A h);
-      stays = λ k e. inl cc;
-    }
-
-    pub follow-done : {report : Report} → x ≡ settled.the-variants.Is report
-        → Follows (slices base sp e r ts) (slices base sp e′ r′ ts′) n o l (Is report)
-    follow-done {report} y = record {
-      done = λ p A h. let R = refreshed p A h in let d = R .report in let f : report ≡ putReport p o l = cc in record {
-        reports = ap Is f;
+    pub follow-done : Follows (slices base sp e r ts) (slices base sp e′ r′ ts′) n o l (Is x)
+    follow-done = record {
+      done = λ p A h. let R = refreshed p A h in record {
+        reports = ap Is (R .report);
         worded = record {
           base = A .worded .base ∙ ap baseWords (sym (put-base p o l));
           spans = A .worded .spans ∙ ap spanWords (sym (put-base p o l));
@@ -169,14 +161,14 @@ module _ {base sp e r ts e′ r′ came came′ went went′ gone gone′ : List
 -- slices of the lengths that `rescore` asks for
 abbrev pub Cut : Slices → Type 0
 Cut s =
-    (baseLength ≤ length (s .base)) × (length (s .spans) ≡ 512) × (length (s .edges) ≡ edgesLength) × (length (s .routes) ≡ routesLength)
+    (baseLength ≤ length (s .base)) × (length (s .spans) ≡ spansLength) × (length (s .edges) ≡ edgesLength) × (length (s .routes) ≡ routesLength)
     × (length (s .times) ≡ timesLength)
 
 module _ {s : Slices} (C : Cut s) where
   worded-held : (p : Plan) → Worded s p → Held s p
   worded-held p W = record {
     base = W .base;
-    spans = take-all 512 (s .spans) (let x = C .1 in omega arith) ∙ W .spans;
+    spans = take-all spansLength (s .spans) (let x = C .1 in omega arith) ∙ W .spans;
     desk = rw (
       take-all routesLength (s .routes) (let x = C .3 in omega arith),
       take-all edgesLength (s .edges) (let x = C .2 in omega arith),
@@ -184,11 +176,11 @@ module _ {s : Slices} (C : Cut s) where
     times = take-all timesLength (s .times) (let x = C .4 in omega arith) ∙ W .times;
   }
 
-  scored-worded : {n : ℕ} {a : scored.Scored} → a ≡ scoredAt (s .base) (s .routes) (s .times) n → (p : Plan) → n ≡ p .base .jobs
+  scored-worded : {n : ℕ} {a : scored.Scored} → ScoredBy (s .base) (s .routes) (s .times) n a → (p : Plan) → n ≡ p .base .jobs
       → Worded s p → a ≡ scored.the-variants.Is (score p)
-  scored-worded q p j W = q ∙ ap (scoredAt (s .base) (s .routes) (s .times)) j ∙ scored-held s p (worded-held p W)
+  scored-worded q p j W = scored-held s p (worded-held p W) q j
 
-module _ {s : Slices} {n o : ℕ} {l : List ℕ} (C : Cut s) {a : scored.Scored} (q : a ≡ scoredAt (s .base) (s .routes) (s .times) n) where
+module _ {s : Slices} {n o : ℕ} {l : List ℕ} (C : Cut s) {a : scored.Scored} (q : ScoredBy (s .base) (s .routes) (s .times) n a) where
   before-is : (p : Plan) → Puts s n o l p → a ≡ scored.the-variants.Is (score p)
   before-is p A = scored-worded C q p (A .jobs) (A .worded)
 
@@ -196,7 +188,7 @@ module _ {s : Slices} {n o : ℕ} {l : List ℕ} (C : Cut s) {a : scored.Scored}
   rescore-bad {r} e = record {
     done = λ p A h. let b = before-is p A in never cc;
     full = λ p A h. let b = before-is p A in never cc;
-    stays = λ k f. let z : r ≡ BadStore = scored-twelve _ _ _ _ q e in inl cc;
+    stays = λ k f. let z : r ≡ BadStore = q .twelve r e in inl cc;
   }
 
   module _ {s′ : Slices} {f : Followed} (F : Follows s s′ n o l f) where
@@ -207,7 +199,7 @@ module _ {s : Slices} {n o : ℕ} {l : List ℕ} (C : Cut s) {a : scored.Scored}
       stays = λ k f. let z : r ≡ k = cc in F .stays k (e ∙ ap Unfollowed z);
     }
 
-    module _ (C′ : Cut s′) {b : scored.Scored} (q′ : b ≡ scoredAt (s′ .base) (s′ .routes) (s′ .times) n) {report : Report}
+    module _ (C′ : Cut s′) {b : scored.Scored} (q′ : ScoredBy (s′ .base) (s′ .routes) (s′ .times) n b) {report : Report}
         (e : f ≡ Is report) where
       after-is : (p : Plan) → Puts s n o l p → inForce (putPlan p o l .desk .routes) ≤ mostEntries
           → b ≡ scored.the-variants.Is (score (putPlan p o l))
@@ -221,7 +213,7 @@ module _ {s : Slices} {n o : ℕ} {l : List ℕ} (C : Cut s) {a : scored.Scored}
       rescore-lost {r} k = record {
         done = λ p A h. let d = after-is p A h in never cc;
         full = λ p A h. absurd (followed-full p A h);
-        stays = λ j f. let z : r ≡ BadStore = scored-twelve _ _ _ _ q′ k in inl cc;
+        stays = λ j f. let z : r ≡ BadStore = q′ .twelve r k in inl cc;
       }
 
       pub rescore-done : {x y z : Score} → a ≡ scored.the-variants.Is x → b ≡ scored.the-variants.Is y → z ≡ minusOf y x
@@ -262,8 +254,8 @@ ask-fine-is n o k e = go (lt-or-le o n) (lt-or-le mostEntries k)
   where
     go : (o < n) ⊎ (n ≤ o) → (mostEntries < k) ⊎ (k ≤ mostEntries) → (o < n) × (k ≤ mostEntries)
     go (inl x) (inr y) = (x, y)
-    go (inl x) (inl y) = let q = ask-many n o k x y in never cc
-    go (inr x) y = let q = ask-owner n o k x in never cc
+    go (inl x) (inl y) = let q = ask-many n o k refl (rw (lt-ltb o n x)) refl (lt-ltb mostEntries k y) in never cc
+    go (inr x) y = let q = ask-owner n o k refl (rw (le-ltb o n x)) in never cc
 
 ask-counts : (a b : Bool) → refusalOf (cond a asking.NoSuchOwner (cond b asking.TooManyEntries Fine))
     ≡ firstOf ((NoSuchOwner, a) ∷ (TooManyEntries, b) ∷ [])

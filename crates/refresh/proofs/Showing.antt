@@ -2,7 +2,7 @@
 use Prim.Native.Nat.{ℕ, zero, suc, _≤_, _<_}
 use native.Mathlib.Omega.{arith}
 use mathlib.Core.Path.{_≡_, refl, sym, ap, subst, _∙_}
-use mathlib.Core.Bool.{false}
+use mathlib.Core.Bool.{Bool, true, false}
 use mathlib.Core.Option.{Option, none, some}
 use mathlib.Core.List.{List}
 use lib.ListN.{length, take}
@@ -10,21 +10,17 @@ use lib.Seq.{sets, length-sets, length-take-le}
 use borrow.Author.Tests.{lt-ltb, le-ltb}
 use Rattle.rules.specs.declared.Plan.{Plan as Counts}
 use Rattle.rules.specs.declared.Refusal.{Refusal}
-use Rattle.rules.specs.declared.Refusal.the-variants.{ShortAnswer, BadStore}
+use Rattle.rules.specs.declared.Refusal.the-variants.{ShortAnswer}
 use Rattle.rules.specs.Sizes.{isShort, edgesLength, mostJobs}
 use Rattle.rules.specs.Routes.{Plan}
 use Rattle.rules.specs.Shown.{order, cycle, shownLineUp, shownCycle}
 use Rattle.rules.specs.Calls.{to-verdict, Reply, refused, lined-up, cycled, verdictOf, accepted}
 use Rattle.rules.specs.Sound.{Sound}
-use Rattle.edges.specs.Edges.{Model, Holds}
+use Rattle.edges.specs.Edges.{Holds}
 use Rattle.routes.specs.Desks.{edgesOf}
 use Rattle.graphs.specs.Graph.{live as liveIn, Below}
-use Rattle.kernels.specs.declared.rows.Tail.{Tail}
-use Rattle.kernels.specs.declared.rows.Tail.the-variants.{Is as Upto, Bad as Lost}
-use Rattle.kernels.specs.declared.lines.Lined.{Lined}
-use Rattle.kernels.specs.declared.lines.Lined.the-variants.{All, Stuck, Bad as Broken}
-use Rattle.searches.specs.Lowests.{Lowest, Shown}
-use Rattle.searches.specs.Cycles.{Cycles, Looped}
+use Rattle.shown.specs.Lowests.{Lowest, Shown}
+use Rattle.shown.specs.Cycles.{Cycles, Looped}
 use Rattle.stores.specs.declared.header.Header.{Header}
 use Rattle.stores.specs.declared.header.Header.the-variants.{Is as Headed, Refused as Unopened}
 use Rattle.refresh.specs.declared.verdict.Judged.{Judged}
@@ -34,14 +30,11 @@ use Rattle.stores.specs.Promise.{Slices, lentOf, Held, answerOf, Decided, Promi
 use Rattle.stores.specs.Says.{places}
 use Rattle.refresh.specs.Shows.{saysVerdict, Showing, Shows, Closing}
 use Rattle.stores.proofs.Tabled.{places-take, taken-sets}
-use Rattle.stores.proofs.Promises.{decided-refused, refusal-long, decided-read, closed-kept, opened-kept, heeds-first, heeds-later}
+use Rattle.stores.proofs.Promises.{decided-refused, refusal-long, decided-read, closed-kept, opened-kept, heeds-first, heeds-done}
 use Rattle.times.proofs.Graphing.{below}
 use Rattle.times.proofs.Judging.{order-is, cycle-is}
 
 -- ── what is shown ──
-
-bad-twelve : (k : Refusal) → Refused BadStore ≡ Refused k → k ≡ BadStore
-bad-twelve k e = cc
 
 says-refused : (out : List ℕ) (v : Judged) (k : Refusal) → saysVerdict out v ≡ refused k → v ≡ Refused k
 says-refused out (LineUp n) k e = absurd (let z : _≡_ {A = ℕ} 0 1 = cc in omega arith)
@@ -57,43 +50,27 @@ placed out l k h i =
 below-at : (p : Plan) → Sound p → (n : ℕ) → n ≡ p .base .jobs → Below n (edgesOf p)
 below-at p S n j = subst (λ (k : ℕ). Below k (edgesOf p)) (sym j) (below p S)
 
-module _ {e o′ : List ℕ} {n : ℕ} {r : Tail} (C : Cycles e n r o′) (out : List ℕ) where
+module _ {e o o′ : List ℕ} {n r : ℕ} (C : Cycles e n o r o′) (out : List ℕ) where
   module _ (p : Plan) (S : Sound p) (H : Holds e (edgesOf p)) (j : n ≡ p .base .jobs) where
-    looped : Looped (edgesOf p) n o′ r
-    looped = C .is (edgesOf p) H (below-at p S n j)
-
-    looped-at : (k : ℕ) → r ≡ Upto k → Looped (edgesOf p) n o′ (Upto k)
-    looped-at k q = rw q at looped
-
     cycle-shown : (c : Option (List ℕ)) → cycle n (liveIn (edgesOf p)) ≡ c → shownCycle p ≡ c
     cycle-shown c x = sym (cycle-is p S) ∙ ap (λ (k : ℕ). cycle k (liveIn (edgesOf p))) (sym j) ∙ x
 
-    cycled-is : (k : ℕ) → Looped (edgesOf p) n o′ (Upto k) → length o′ ≡ mostJobs → k ≤ 512 → k ≤ length out → shownLineUp p ≡ none
+    cycled-is : (k : ℕ) → Looped (edgesOf p) n o′ k → length o′ ≡ mostJobs → k ≤ mostJobs → k ≤ length out → shownLineUp p ≡ none
         → {out′ : List ℕ} → out′ ≡ sets out 0 (take k o′) → Showing p out (Cycle k) out′
     unfolding places
     cycled-is zero L len h i x w = record { says = rw (x, cycle-shown none L); answers = w }
-    cycled-is (suc k) (a, L) len h i x {out′} w =
+    cycled-is (suc k) L len h i x {out′} w =
         let y : places (suc k) out′ ≡ take (suc k) o′ = ap (places (suc k)) w ∙ placed out o′ (suc k) (omega arith) i in
         record { says = rw (x, cycle-shown _ L) (ap cycled y); answers = w ∙ ap (sets out 0) (sym y) }
 
-  pub closing-bad : r ≡ Lost → {out′ : List ℕ} → Closing e n out (Refused BadStore) out′
-  closing-bad q = record { twelve = bad-twelve; is = λ p S H j x. absurd (rw q at (looped p S H j)) }
-
-  pub closing-long : (k : ℕ) → r ≡ Upto k → n < k → {out′ : List ℕ} → Closing e n out (Refused BadStore) out′
-  closing-long k q h = record { twelve = bad-twelve; is = λ p S H j x. absurd (go (edgesOf p) k h (looped-at p S H j k q)) }
-    where
-      go : (m : Model) (k : ℕ) → n < k → Looped m n o′ (Upto k) → ⊥
-      go m zero h L = omega arith
-      go m (suc k) h (a, L) = omega arith
-
-  pub closing-shown : (k : ℕ) → r ≡ Upto k → k ≤ n → n ≤ mostJobs → n ≤ length out → length o′ ≡ mostJobs → {out′ : List ℕ}
-      → out′ ≡ sets out 0 (take k o′) → Closing e n out (Cycle k) out′
-  closing-shown k q h i l len w = record {
-    twelve = λ j e. absurd (let z : _≡_ {A = ℕ} 0 1 = cc in omega arith);
-    is = λ p S H j x. cycled-is p S H j k (looped-at p S H j k q) len (omega arith) (omega arith) x w;
+  pub closing-shown : n ≤ mostJobs → n ≤ length out → length o′ ≡ mostJobs → {out′ : List ℕ} → out′ ≡ sets out 0 (take r o′)
+      → Closing e n out (Cycle r) out′
+  closing-shown i l len w = let h = C .within in record {
+    told = λ k e. absurd (let z : _≡_ {A = ℕ} 0 1 = cc in omega arith);
+    is = λ p S H j x. cycled-is p S H j r (C .is (edgesOf p) H (below-at p S n j)) len (omega arith) (omega arith) x w;
   }
 
-module _ {e o′ : List ℕ} {n : ℕ} {r : Lined} (L : Lowest e n r o′) (out : List ℕ) where
+module _ {e o o′ : List ℕ} {n : ℕ} {r : Bool} (L : Lowest e n o r o′) (out : List ℕ) where
   module _ (p : Plan) (S : Sound p) (H : Holds e (edgesOf p)) (j : n ≡ p .base .jobs) where
     lined : Shown (edgesOf p) n o′ r
     lined = L .is (edgesOf p) H (below-at p S n j)
@@ -101,16 +78,13 @@ module _ {e o′ : List ℕ} {n : ℕ} {r : Lined} (L : Lowest e n r o′) (out 
     line-up-shown : (c : Option (List ℕ)) → order n (liveIn (edgesOf p)) ≡ c → shownLineUp p ≡ c
     line-up-shown c x = sym (order-is p S) ∙ ap (λ (k : ℕ). order k (liveIn (edgesOf p))) (sym j) ∙ x
 
-  pub shows-bad : r ≡ Broken → {out′ : List ℕ} → Shows e n out (Refused BadStore) out′
-  shows-bad q = record { twelve = bad-twelve; is = λ p S H j. absurd (rw q at (lined p S H j)) }
+  pub shows-closed : r ≡ false → {v : Judged} {out′ : List ℕ} → Closing e n out v out′ → Shows e n out v out′
+  shows-closed q C = record { told = C .told; is = λ p S H j. C .is p S H j (line-up-shown p S H j none (rw q at (lined p S H j))) }
 
-  pub shows-closed : r ≡ Stuck → {v : Judged} {out′ : List ℕ} → Closing e n out v out′ → Shows e n out v out′
-  shows-closed q C = record { twelve = C .twelve; is = λ p S H j. C .is p S H j (line-up-shown p S H j none (rw q at (lined p S H j))) }
-
-  pub shows-lined : r ≡ All → n ≤ mostJobs → n ≤ length out → length o′ ≡ mostJobs → {out′ : List ℕ} → out′ ≡ sets out 0 (take n o′)
+  pub shows-lined : r ≡ true → n ≤ mostJobs → n ≤ length out → length o′ ≡ mostJobs → {out′ : List ℕ} → out′ ≡ sets out 0 (take n o′)
       → Shows e n out (LineUp n) out′
   shows-lined q i l len {out′} w = record {
-    twelve = λ j e. absurd (let z : _≡_ {A = ℕ} 0 1 = cc in omega arith);
+    told = λ k e. absurd (let z : _≡_ {A = ℕ} 0 1 = cc in omega arith);
     is = λ p S H j.
         let x = line-up-shown p S H j (some (take n o′)) (rw q at (lined p S H j)) in
         let y : places n out′ ≡ take n o′ = ap (places n) w ∙ placed out o′ n (omega arith) l in
@@ -143,6 +117,5 @@ module _ (s : Slices) (out : List ℕ) {h : Header} (opens : h ≡ openOf (lentO
         let x = X .is p (H .desk .sound) (H .desk .edges) m′ in
         let d = some-verdict f p H (rw m′ at k) (saysVerdict out′ v) (x .says) in
         record { says = d .says; leaves = d .leaves; answers = x .answers })
-        (heeds-later (to-verdict (length out)) s opens (rw (is, le-ltb (length out) (plan .jobs) (rw m at k)))
-        (λ j e. let z = X .twelve j (says-refused out′ v j e) in rw z)
-        (λ j e n. absurd (n (X .twelve j (says-refused out′ v j e)))))
+        (heeds-done (to-verdict (length out)) s opens (rw (is, le-ltb (length out) (plan .jobs) (rw m at k)))
+        (λ j e. X .told j (says-refused out′ v j e)))

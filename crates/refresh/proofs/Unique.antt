@@ -17,8 +17,8 @@ use Rattle.stores.specs.declared.score.Counted.{Counted}
 use Rattle.stores.specs.declared.score.Counted.the-variants.{Is as Counts, Refused as Uncounted}
 use Rattle.stores.specs.declared.reset.Ended.{Ended}
 use Rattle.stores.specs.declared.reset.Ended.the-variants.{Fine, Refused as Unended}
-use Rattle.stores.specs.declared.starts.Started.{Started}
-use Rattle.stores.specs.declared.starts.Started.the-variants.{All, Refused as Unstarted}
+use Rattle.stores.specs.declared.reported.Started.{Started}
+use Rattle.stores.specs.declared.reported.Started.the-variants.{All, Refused as Unstarted}
 use Rattle.refresh.specs.declared.verdict.Judged.{Judged}
 use Rattle.refresh.specs.declared.verdict.Judged.the-variants.{LineUp, Cycle, Refused as Unjudged}
 use Rattle.stores.specs.Promise.{Slices, StandsFor, answerOf, Decided, Promise, AnyPromise, Reads}

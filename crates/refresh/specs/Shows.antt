@@ -5,7 +5,6 @@ use mathlib.Core.Option.{none}
 use mathlib.Core.List.{List}
 use lib.Seq.{sets}
 use Rattle.rules.specs.declared.Refusal.{Refusal}
-use Rattle.rules.specs.declared.Refusal.the-variants.{BadStore}
 use Rattle.rules.specs.Routes.{Plan}
 use Rattle.rules.specs.Shown.{shownLineUp, shownCycle}
 use Rattle.rules.specs.Calls.{Reply, refused, lined-up, cycled, verdictOf}
@@ -30,11 +29,11 @@ pub record Showing (p : Plan) (out : List ℕ) (r : Judged) (out′ : List ℕ) 
 
 -- of every plan whose edges are the words e
 pub record Shows (e : List ℕ) (n : ℕ) (out : List ℕ) (r : Judged) (out′ : List ℕ) : Type 0 where
-  -- of any words: nothing is refused under another number
-  pub twelve : (k : Refusal) → r ≡ Refused k → k ≡ BadStore
+  -- of any words there is an answer
+  pub told : (k : Refusal) → r ≡ Refused k → ⊥
   pub is : (p : Plan) → Sound p → Holds e (edgesOf p) → n ≡ p .base .jobs → Showing p out r out′
 
 -- of a plan that has no line-up
 pub record Closing (e : List ℕ) (n : ℕ) (out : List ℕ) (r : Judged) (out′ : List ℕ) : Type 0 where
-  pub twelve : (k : Refusal) → r ≡ Refused k → k ≡ BadStore
+  pub told : (k : Refusal) → r ≡ Refused k → ⊥
   pub is : (p : Plan) → Sound p → Holds e (edgesOf p) → n ≡ p .base .jobs → shownLineUp p ≡ none → Showing p out r out′

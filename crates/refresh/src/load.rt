@@ -1,5 +1,6 @@
 // A load: every argument is checked, then every word is written.
-use bulk::bulk::fixed;
+use edges::fixed::fixed;
+use routes::route::no_routes;
 use rules::Plan;
 use rules::Refusal;
 use stores::base::write_base;
@@ -7,7 +8,6 @@ use stores::base::write_spans;
 use stores::header::broad;
 use stores::score::Scored;
 use stores::score::score_of;
-use times::settle::Settled;
 use times::settle::anew;
 ghost use mathlib.Core.Path.{_≡_};
 ghost use mathlib.Core.List.{_++_, _∷_, []};
@@ -143,7 +143,7 @@ fn write(
     write_base(base, jobs, owners, expected, from, to);
     write_spans(spans, durations);
     fixed(&mut edges[..Plan::EDGES], from, to, from.len(), jobs);
-    tables::fill(routes, 0, Plan::ROUTES, 0);
+    no_routes(routes);
 }
 
 // The times of the plan whose other words are there, and its score.
@@ -160,15 +160,13 @@ fn first_score(
     ensures { λ r. ⌜ Rates (now (base .entry)) (now (spans .entry)) (now (edges .entry)) (now (routes .entry)) (now (times .entry))
         (plan .jobs) r (now (times .exit)) ⌝ }
 {
-    match anew(
+    anew(
         &edges[..Plan::EDGES],
         &spans[..Plan::SPANS],
         &mut times[..Plan::TIMES],
         broad(plan.jobs),
-    ) {
-        Settled::Bad => Scored::Refused(Refusal::BadStore),
-        Settled::Is(_) => score_of(base, routes, &times[..], plan),
-    }
+    );
+    score_of(base, routes, &times[..], plan)
 }
 
 // The plan in place of whatever the store held, and its score.

@@ -7,12 +7,12 @@ use rules::Plan;
 use rules::Refusal;
 use rules::Report;
 use rules::Score;
+use stores::base::expected;
 use stores::header::Header;
 use stores::header::broad;
 use stores::header::opened;
 use stores::score::Scored;
 use stores::score::score_of;
-use times::settle::Settled;
 use times::settle::refresh;
 ghost use mathlib.Core.Path.{_≡_};
 ghost use mathlib.Core.List.{[]};
@@ -57,9 +57,9 @@ fn change(
     match puts::put::put(
         routes,
         edges,
-        &base[6149..Plan::BASE],
-        plan.jobs,
-        owner.0,
+        expected(base),
+        plan,
+        owner,
         entries,
         &mut came,
         &mut went,
@@ -67,7 +67,7 @@ fn change(
     ) {
         Outcome::Bad => Followed::Refused(Refusal::BadStore),
         Outcome::NoRoom => Followed::Refused(Refusal::NoRoom),
-        Outcome::Done(c, w, g) => match refresh(
+        Outcome::Done(c, w, g) => Followed::Is(refresh(
             edges,
             spans,
             times,
@@ -78,10 +78,7 @@ fn change(
             &gone,
             g,
             broad(plan.jobs),
-        ) {
-            Settled::Bad => Followed::Refused(Refusal::BadStore),
-            Settled::Is(r) => Followed::Is(r),
-        },
+        )),
     }
 }
 
@@ -140,7 +137,7 @@ pub fn put(
 {
     match opened(base, spans.len(), edges.len(), routes.len(), times.len()) {
         Header::Refused(r) => Changed::Refused(r),
-        Header::Is(plan) => match asked(plan.owners, owner.0, entries.len()) {
+        Header::Is(plan) => match asked(plan, owner, entries.len()) {
             Ask::NoSuchOwner => Changed::Refused(Refusal::NoSuchOwner),
             Ask::TooManyEntries => Changed::Refused(Refusal::TooManyEntries),
             Ask::Fine => rescore(

@@ -1,13 +1,12 @@
 // The shown line-up, or the shown cycle.
-use kernels::lines::Lined;
-use kernels::rows::Tail;
 use rules::Plan;
 use rules::Refusal;
-use searches::cycles::cycle;
-use searches::lowests::lowest_up;
+use shown::cycles::cycle;
+use shown::lowests::lowest_up;
 use stores::header::Header;
 use stores::header::broad;
 use stores::header::opened;
+use words::widen;
 ghost use mathlib.Core.Path.{_≡_};
 ghost use Prim.Native.Nat.{_≤_};
 ghost use lib.ListN.{length, take};
@@ -23,34 +22,15 @@ pub enum Judged {
     Refused(Refusal),
 }
 
-// The first k jobs, as numbers of the answer.
-pub fn show(out: &mut [u32], jobs: &[u16], k: usize)
-    requires { ⌜ (k ≤ length (now out)) × (k ≤ length (now jobs)) ⌝ }
-    ensures { λ _. ⌜ now (out .exit) ≡ sets (now (out .entry)) 0 (take k (now (jobs .entry))) ⌝ }
-{
-    let mut i: usize = 0;
-    while i < k {
-        out[i] = jobs[i] as u32;
-        i += 1;
-    }
-}
-
 // There is no line-up: the cycle.
 fn closed(edges: &[u16], n: usize, out: &mut [u32]) -> Judged
     requires { ⌜ (length (now edges) ≡ edgesLength) × (n ≤ mostJobs) × (n ≤ length (now out)) ⌝ }
     ensures { λ r. ⌜ Closing (now (edges .entry)) n (now (out .entry)) r (now (out .exit)) ⌝ }
 {
     let mut jobs = [0u16; Plan::JOBS];
-    match cycle(edges, n, &mut jobs) {
-        Tail::Bad => Judged::Refused(Refusal::BadStore),
-        Tail::Is(k) => {
-            if n < k {
-                return Judged::Refused(Refusal::BadStore);
-            }
-            show(out, &jobs, k);
-            Judged::Cycle(k)
-        }
-    }
+    let k = cycle(edges, n, &mut jobs);
+    widen(out, 0, &jobs, k);
+    Judged::Cycle(k)
 }
 
 // The line-up, or the cycle.
@@ -59,14 +39,11 @@ fn shown(edges: &[u16], n: usize, out: &mut [u32]) -> Judged
     ensures { λ r. ⌜ Shows (now (edges .entry)) n (now (out .entry)) r (now (out .exit)) ⌝ }
 {
     let mut jobs = [0u16; Plan::JOBS];
-    match lowest_up(edges, n, &mut jobs) {
-        Lined::Bad => Judged::Refused(Refusal::BadStore),
-        Lined::All => {
-            show(out, &jobs, n);
-            Judged::LineUp(n)
-        }
-        Lined::Stuck => closed(edges, n, out),
+    if lowest_up(edges, n, &mut jobs) {
+        widen(out, 0, &jobs, n);
+        return Judged::LineUp(n);
     }
+    closed(edges, n, out)
 }
 
 pub fn verdict(

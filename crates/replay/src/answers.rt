@@ -13,12 +13,12 @@ fn letter(b: u8) -> i64 {
 }
 
 // A word's first two letters.
-pub fn word(out: &mut [i64], a: u8, b: u8) -> usize {
+pub(crate) fn word(out: &mut [i64], a: u8, b: u8) -> usize {
     let n = push(out, 0, letter(a));
     push(out, n, letter(b))
 }
 
-pub fn refused(out: &mut [i64], r: Refusal) -> usize {
+pub(crate) fn refused(out: &mut [i64], r: Refusal) -> usize {
     let n = word(out, b'n', b'o');
     let k = r.number() as i64;
     push(out, n, k)
@@ -33,7 +33,7 @@ fn parts(out: &mut [i64], a: u8, b: u8, s: Score) -> usize {
     push(out, m, soft)
 }
 
-pub fn ok(out: &mut [i64], s: Score) -> usize {
+pub(crate) fn ok(out: &mut [i64], s: Score) -> usize {
     parts(out, b'o', b'k', s)
 }
 
@@ -46,20 +46,20 @@ fn kind(r: Report) -> i64 {
     }
 }
 
-pub fn changed(out: &mut [i64], s: Score, r: Report) -> usize {
+pub(crate) fn changed(out: &mut [i64], s: Score, r: Report) -> usize {
     let n = ok(out, s);
     let m = push(out, n, kind(r));
     let v = r.visits();
     push(out, m, signed(wide(v)))
 }
 
-pub fn counted(out: &mut [i64], s: Score, matches: u64) -> usize {
+pub(crate) fn counted(out: &mut [i64], s: Score, matches: u64) -> usize {
     let n = parts(out, b's', b'c', s);
     push(out, n, signed(matches))
 }
 
 // A list's length and its elements, behind n numbers.
-pub fn jobs(out: &mut [i64], n: usize, list: &[u32], k: usize) -> usize {
+pub(crate) fn jobs(out: &mut [i64], n: usize, list: &[u32], k: usize) -> usize {
     let all = least(k, list.len());
     let mut m = push(out, n, signed(all as u64));
     let mut i: usize = 0;
@@ -70,7 +70,7 @@ pub fn jobs(out: &mut [i64], n: usize, list: &[u32], k: usize) -> usize {
     m
 }
 
-pub fn starts(out: &mut [i64], list: &[u64], k: usize) -> usize {
+pub(crate) fn starts(out: &mut [i64], list: &[u64], k: usize) -> usize {
     let all = least(k, list.len());
     let n = word(out, b's', b't');
     let mut m = push(out, n, signed(all as u64));
@@ -82,31 +82,18 @@ pub fn starts(out: &mut [i64], list: &[u64], k: usize) -> usize {
     m
 }
 
-fn block(out: &mut [i64], n: usize, b: Block) -> usize {
+pub(crate) fn block(out: &mut [i64], n: usize, b: Block) -> usize {
     let p = push(out, n, signed(wide(b.owner)));
     let q = push(out, p, signed(wide(b.first)));
     let r = push(out, q, signed(wide(b.last)));
     push(out, r, signed(wide(b.length)))
 }
 
-pub fn blocks(out: &mut [i64], list: [Block; 1024], k: usize) -> usize {
-    let all = least(k, 1024);
-    let n = word(out, b'b', b'l');
-    let mut m = push(out, n, signed(all as u64));
-    let mut i: usize = 0;
-    while i < all {
-        let b = list[i];
-        m = block(out, m, b);
-        i += 1;
-    }
-    m
-}
-
 fn bit(b: bool) -> i64 {
     if b { 1 } else { 0 }
 }
 
-pub fn moved(out: &mut [i64], quick: bool, full: bool, list: &[u32], k: usize) -> usize {
+pub(crate) fn moved(out: &mut [i64], quick: bool, full: bool, list: &[u32], k: usize) -> usize {
     let n = word(out, b'm', b'o');
     let p = push(out, n, bit(quick));
     let q = push(out, p, bit(full));

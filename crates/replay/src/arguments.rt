@@ -7,6 +7,7 @@ use crate::calls::put;
 use crate::calls::score;
 use crate::calls::starts_call;
 use crate::calls::verdict;
+use crate::lists::NUMBERS;
 use crate::lists::fields;
 use crate::lists::least;
 use crate::moving::Kind;
@@ -15,7 +16,7 @@ use refresh::reset::reset;
 use refresh::retract::retract;
 
 // What a line is, by its first letters.
-pub enum Ask {
+enum Ask {
     Load,
     Reset,
     Cut,
@@ -83,7 +84,7 @@ fn ask_of(line: &[u8]) -> Ask {
 }
 
 // The place behind the word that begins at a place.
-pub fn word_end(line: &[u8], from: usize) -> usize {
+pub(crate) fn word_end(line: &[u8], from: usize) -> usize {
     let mut i = from;
     while i < line.len() {
         if line[i] == b' ' {
@@ -143,7 +144,7 @@ fn made(
 }
 
 // A call's line: the answer as numbers, and how many.
-pub fn answer_to(
+pub(crate) fn answer_to(
     line: &[u8],
     base: &mut [u32],
     spans: &mut [u64],
@@ -152,10 +153,10 @@ pub fn answer_to(
     times: &mut [u64],
     out: &mut [i64],
 ) -> usize {
-    let mut args = [0i64; 16384];
+    let mut args = [0i64; NUMBERS];
     let from = word_end(line, 0);
     let n = fields(line, from, &mut args, 0);
-    let k = least(n, 16384);
+    let k = least(n, NUMBERS);
     made(
         ask_of(line),
         base,

@@ -1,5 +1,5 @@
 // The calls but for the moves. Each takes its arguments from a list of numbers and writes its answer as numbers; how many.
-use crate::answers::blocks;
+use crate::answers::block;
 use crate::answers::changed;
 use crate::answers::counted;
 use crate::answers::jobs;
@@ -7,29 +7,35 @@ use crate::answers::ok;
 use crate::answers::refused;
 use crate::answers::starts;
 use crate::answers::word;
+use crate::lists::LIST;
 use crate::lists::after;
 use crate::lists::get;
 use crate::lists::jobs_at;
+use crate::lists::push;
 use crate::lists::room_at;
+use crate::lists::signed;
 use crate::lists::small;
 use crate::lists::spans_at;
-use finds::found::find;
+use blocks::blocks::Found;
+use blocks::blocks::next;
+use blocks::blocks::search;
 use moves::Blocked;
 use refresh::put::Changed;
+use refresh::reported::Started;
 use refresh::reset::Ended;
 use refresh::score::Counted;
 use refresh::score::Scored;
-use refresh::starts::Started;
 use refresh::verdict::Judged;
 use rules::Owner;
+use rules::Plan;
 use rules::Score;
 
-pub fn owner_of(args: &[i64]) -> Owner {
+pub(crate) fn owner_of(args: &[i64]) -> Owner {
     Owner(small(get(args, 0)))
 }
 
 // Jobs, owners, and four lists: durations, expected owners, from, to.
-pub fn load(
+pub(crate) fn load(
     base: &mut [u32],
     spans: &mut [u64],
     edges: &mut [u16],
@@ -40,10 +46,10 @@ pub fn load(
 ) -> usize {
     let jobs = small(get(args, 0));
     let owners = small(get(args, 1));
-    let mut durations = [0u64; 4096];
-    let mut expected = [0u32; 4096];
-    let mut from = [0u32; 4096];
-    let mut to = [0u32; 4096];
+    let mut durations = [0u64; LIST];
+    let mut expected = [0u32; LIST];
+    let mut from = [0u32; LIST];
+    let mut to = [0u32; LIST];
     let d = spans_at(args, 2, &mut durations);
     let p = after(args, 2);
     let x = jobs_at(args, p, &mut expected);
@@ -69,14 +75,14 @@ pub fn load(
     }
 }
 
-pub fn ended(answer: Ended, out: &mut [i64]) -> usize {
+pub(crate) fn ended(answer: Ended, out: &mut [i64]) -> usize {
     match answer {
         Ended::Refused(r) => refused(out, r),
         Ended::Fine => ok(out, Score { hard: 0, soft: 0 }),
     }
 }
 
-pub fn put(
+pub(crate) fn put(
     base: &[u32],
     spans: &[u64],
     edges: &mut [u16],
@@ -85,7 +91,7 @@ pub fn put(
     args: &[i64],
     out: &mut [i64],
 ) -> usize {
-    let mut list = [0u32; 4096];
+    let mut list = [0u32; LIST];
     let n = jobs_at(args, 1, &mut list);
     match refresh::put::put(
         base,
@@ -101,7 +107,7 @@ pub fn put(
     }
 }
 
-pub fn score(
+pub(crate) fn score(
     base: &[u32],
     spans: &[u64],
     edges: &[u16],
@@ -129,7 +135,7 @@ fn judged(answer: Judged, list: &[u32], out: &mut [i64]) -> usize {
     }
 }
 
-pub fn verdict(
+pub(crate) fn verdict(
     base: &[u32],
     spans: &[u64],
     edges: &[u16],
@@ -138,7 +144,7 @@ pub fn verdict(
     args: &[i64],
     out: &mut [i64],
 ) -> usize {
-    let mut list = [0u32; 1024];
+    let mut list = [0u32; Plan::ENTRIES];
     let room = room_at(args, 0);
     let answer = refresh::verdict::verdict(base, spans, edges, routes, times, &mut list[..room]);
     judged(answer, &list, out)
@@ -151,7 +157,7 @@ fn started(answer: Started, list: &[u64], out: &mut [i64]) -> usize {
     }
 }
 
-pub fn starts_call(
+pub(crate) fn starts_call(
     base: &[u32],
     spans: &[u64],
     edges: &[u16],
@@ -160,13 +166,36 @@ pub fn starts_call(
     args: &[i64],
     out: &mut [i64],
 ) -> usize {
-    let mut list = [0u64; 1024];
+    let mut list = [0u64; Plan::ENTRIES];
     let room = room_at(args, 0);
-    let answer = refresh::starts::starts(base, spans, edges, routes, times, &mut list[..room]);
+    let answer = refresh::reported::starts(base, spans, edges, routes, times, &mut list[..room]);
     started(answer, &list, out)
 }
 
-pub fn blocks_call(
+// The blocks that a search found, one after the other.
+fn found_blocks(
+    base: &[u32],
+    spans: &[u64],
+    edges: &[u16],
+    routes: &[u16],
+    times: &[u64],
+    owners: &[u32],
+    f: Found,
+    out: &mut [i64],
+) -> usize {
+    let mut left = f.count;
+    let n = word(out, b'b', b'l');
+    let mut m = push(out, n, signed(left as u64));
+    let mut at = f.spot;
+    while 0 < left {
+        at = next(base, spans, edges, routes, times, owners, f, at);
+        m = block(out, m, at.block);
+        left -= 1;
+    }
+    m
+}
+
+pub(crate) fn blocks_call(
     base: &[u32],
     spans: &[u64],
     edges: &[u16],
@@ -175,14 +204,14 @@ pub fn blocks_call(
     args: &[i64],
     out: &mut [i64],
 ) -> usize {
-    let mut owners = [0u32; 4096];
+    let mut owners = [0u32; LIST];
     let room = room_at(args, 0);
     let n = jobs_at(args, 1, &mut owners);
-    let f = find(base, spans, edges, routes, times, &owners[..n], room);
+    let list = &owners[..n];
+    let f = search(base, spans, edges, routes, times, list, room);
     let answer = f.answer;
-    let list = f.list;
     match answer {
         Blocked::Refused(r) => refused(out, r),
-        Blocked::Are(k) => blocks(out, list, k),
+        Blocked::Are(_) => found_blocks(base, spans, edges, routes, times, list, f, out),
     }
 }

@@ -1,24 +1,27 @@
 // Numbers in a list with a count. What doesn't fit is left out.
+use rules::Plan;
 use text::fields::Field;
+use text::fields::narrow;
 ghost use Prim.Native.Nat.{ℕ, _+_, _≤_, min};
 ghost use mathlib.Core.Path.{_≡_};
 ghost use lib.ListN.{length};
+ghost use Rattle.rules.specs.Sizes.{mostEntries};
 ghost use Rattle.replay.specs.Places.{From};
 
-pub fn wide(x: u32) -> u64 {
+// Places for a list that a call is asked with: more than it may have.
+pub(crate) const LIST: usize = Plan::FIXED + Plan::ENTRIES;
+
+// Places for the numbers of a line: a load has four lists.
+pub(crate) const NUMBERS: usize = 4 * LIST;
+
+pub(crate) fn wide(x: u32) -> u64
+    ensures { λ r. ⌜ r ≡ x ⌝ }
+{
     x as u64
 }
 
-// A number of the library's width; one that is too wide is its largest.
-pub fn small(x: i64) -> u32 {
-    if x < 0 {
-        return 4294967295;
-    }
-    if x < 4294967296 { x as u32 } else { 4294967295 }
-}
-
 // A duration; a number of 2^63 or more was read as -1, and is the largest.
-pub fn large(x: i64) -> u64 {
+fn large(x: i64) -> u64 {
     if x < 0 {
         18446744073709551615
     } else {
@@ -26,12 +29,17 @@ pub fn large(x: i64) -> u64 {
     }
 }
 
-pub fn count(x: i64) -> usize {
+// A number of the library's width; one that is too wide is its largest.
+pub(crate) fn small(x: i64) -> u32 {
+    narrow(large(x))
+}
+
+fn count(x: i64) -> usize {
     if x < 0 { 0 } else { x as usize }
 }
 
 // A number as the lists hold it; one that is too wide is -1.
-pub fn signed(x: u64) -> i64 {
+pub(crate) fn signed(x: u64) -> i64 {
     if x < 9223372036854775808 {
         x as i64
     } else {
@@ -39,13 +47,13 @@ pub fn signed(x: u64) -> i64 {
     }
 }
 
-pub fn least(a: usize, b: usize) -> usize
+pub(crate) fn least(a: usize, b: usize) -> usize
     ensures { λ r. ⌜ r ≡ min a b ⌝ }
 {
     if a < b { a } else { b }
 }
 
-pub fn push(list: &mut [i64], n: usize, x: i64) -> usize {
+pub(crate) fn push(list: &mut [i64], n: usize, x: i64) -> usize {
     if n < list.len() {
         list[n] = x;
         return n + 1;
@@ -53,11 +61,11 @@ pub fn push(list: &mut [i64], n: usize, x: i64) -> usize {
     n
 }
 
-pub fn get(list: &[i64], i: usize) -> i64 {
+pub(crate) fn get(list: &[i64], i: usize) -> i64 {
     if i < list.len() { list[i] } else { 0 }
 }
 
-pub enum Read {
+enum Read {
     Is(i64, usize),
     Ends,
 }
@@ -104,7 +112,7 @@ fn field(line: &[u8], at: usize) -> Read
 }
 
 // The fields from a place on, behind n numbers. How many there are then.
-pub fn fields(line: &[u8], from: usize, list: &mut [i64], n: usize) -> usize {
+pub(crate) fn fields(line: &[u8], from: usize, list: &mut [i64], n: usize) -> usize {
     let mut at = from;
     let mut k = n;
     while at < line.len() {
@@ -119,15 +127,15 @@ pub fn fields(line: &[u8], from: usize, list: &mut [i64], n: usize) -> usize {
     k
 }
 
-// A room for answers: the number at a place, as far as there are places in a list of 1,024.
-pub fn room_at(list: &[i64], i: usize) -> usize
-    ensures { λ r. ⌜ r ≤ 1024 ⌝ }
+// A room for answers: the number at a place, as far as there are places in a list of as many as a route has.
+pub(crate) fn room_at(list: &[i64], i: usize) -> usize
+    ensures { λ r. ⌜ r ≤ mostEntries ⌝ }
 {
-    least(count(get(list, i)), 1024)
+    least(count(get(list, i)), Plan::ENTRIES)
 }
 
 // A list within the numbers: its length at a place, then its elements. How many were written.
-pub fn jobs_at(list: &[i64], at: usize, out: &mut [u32]) -> usize
+pub(crate) fn jobs_at(list: &[i64], at: usize, out: &mut [u32]) -> usize
     ensures { λ r. ⌜ r ≤ length (now (out .exit)) ⌝ }
 {
     let k = least(count(get(list, at)), out.len());
@@ -139,7 +147,7 @@ pub fn jobs_at(list: &[i64], at: usize, out: &mut [u32]) -> usize
     k
 }
 
-pub fn spans_at(list: &[i64], at: usize, out: &mut [u64]) -> usize
+pub(crate) fn spans_at(list: &[i64], at: usize, out: &mut [u64]) -> usize
     ensures { λ r. ⌜ r ≤ length (now (out .exit)) ⌝ }
 {
     let k = least(count(get(list, at)), out.len());
@@ -162,7 +170,7 @@ fn element(list: &[i64], at: usize, i: usize) -> i64 {
 }
 
 // The place i behind the one after `at`, as far as there are places.
-pub fn behind(at: usize, i: usize, len: usize) -> usize {
+fn behind(at: usize, i: usize, len: usize) -> usize {
     if len <= at {
         return len;
     }
@@ -173,11 +181,11 @@ pub fn behind(at: usize, i: usize, len: usize) -> usize {
 }
 
 // The place behind a list that begins at a place.
-pub fn after(list: &[i64], at: usize) -> usize {
+pub(crate) fn after(list: &[i64], at: usize) -> usize {
     behind(at, count(get(list, at)), list.len())
 }
 
-pub fn same(a: &[i64], b: &[i64]) -> bool {
+pub(crate) fn same(a: &[i64], b: &[i64]) -> bool {
     if a.len() != b.len() {
         return false;
     }

@@ -2,6 +2,7 @@
 use crate::answers::moved;
 use crate::answers::refused;
 use crate::calls::owner_of;
+use crate::lists::LIST;
 use crate::lists::get;
 use crate::lists::jobs_at;
 use crate::lists::room_at;
@@ -11,9 +12,10 @@ use moves::moved::list_change;
 use moves::moved::permutation;
 use moves::moved::sublist_change;
 use moves::moved::sublist_swap;
+use rules::Plan;
 
 // Which of the four.
-pub enum Kind {
+pub(crate) enum Kind {
     Change,
     Sublist,
     Swap,
@@ -98,7 +100,7 @@ fn permute(
     args: &[i64],
     list: &mut [u32],
 ) -> Moved {
-    let mut by = [0u32; 4096];
+    let mut by = [0u32; LIST];
     let n = jobs_at(args, 4, &mut by);
     let owner = owner_of(args);
     let a = number(args, 1);
@@ -135,7 +137,7 @@ fn asked(
     }
 }
 
-pub fn make(
+pub(crate) fn make(
     kind: Kind,
     base: &[u32],
     spans: &[u64],
@@ -145,7 +147,7 @@ pub fn make(
     args: &[i64],
     out: &mut [i64],
 ) -> usize {
-    let mut list = [0u32; 1024];
+    let mut list = [0u32; Plan::ENTRIES];
     let room = room_at(args, room_place(kind));
     let m = asked(
         kind,

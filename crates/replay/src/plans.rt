@@ -1,10 +1,12 @@
 // The calls of one plan, on one store that is zeroed at first.
 use crate::arguments::answer_to;
 use crate::arguments::word_end;
+use crate::lists::NUMBERS;
 use crate::lists::fields;
 use crate::lists::least;
 use crate::lists::push;
 use crate::lists::same;
+use rules::Plan;
 use text::ends::End;
 use text::ends::line_end;
 ghost use Prim.Native.Nat.{_+_, _≤_, _<_};
@@ -12,14 +14,14 @@ ghost use mathlib.Core.Path.{_≡_};
 ghost use lib.ListN.{length};
 
 // Calls, answers that differ, and the place of the next plan.
-pub struct Told {
+pub(crate) struct Told {
     pub calls: u64,
     pub differ: u64,
     pub next: usize,
 }
 
 // What a line comes to: a call with so many numbers of an answer, an answer that agrees or differs, or nothing.
-pub enum Came {
+enum Came {
     Call(usize),
     Agrees,
     Differs,
@@ -50,7 +52,7 @@ fn is_plan(line: &[u8]) -> bool {
 }
 
 // The first place from one on where a plan begins, or the input's end.
-pub fn skip(input: &[u8], from: usize) -> usize
+pub(crate) fn skip(input: &[u8], from: usize) -> usize
     requires { ⌜ from ≤ length (now input) ⌝ }
     ensures { λ r. ⌜ (from ≤ r) × (r ≤ length (now (input .entry))) ⌝ }
 {
@@ -110,11 +112,11 @@ fn short(
 
 // The recorded answer: its word's first two letters, then its numbers.
 fn agrees(line: &[u8], answer: &[i64]) -> bool {
-    let mut want = [0i64; 16384];
+    let mut want = [0i64; NUMBERS];
     let a = push(&mut want, 0, byte_at(line, 2) as i64);
     let b = push(&mut want, a, byte_at(line, 3) as i64);
     let from = word_end(line, least(2, line.len()));
-    let n = least(fields(line, from, &mut want, b), 16384);
+    let n = least(fields(line, from, &mut want, b), NUMBERS);
     same(&want[..n], answer)
 }
 
@@ -217,16 +219,16 @@ fn lines(
 }
 
 // The plan whose line begins at a place, up to the next plan.
-pub fn plan(input: &[u8], from: usize) -> Told
+pub(crate) fn plan(input: &[u8], from: usize) -> Told
     requires { ⌜ from < length (now input) ⌝ }
     ensures { λ r. ⌜ (from < r .next) × (r .next ≤ length (now (input .entry))) × (r .calls + from ≤ r .next) × (r .differ + from ≤ r .next) ⌝ }
 {
-    let mut base = [0u32; 6661];
-    let mut spans = [0u64; 512];
-    let mut edges = [0u16; 13314];
-    let mut routes = [0u16; 1794];
-    let mut times = [0u64; 514];
-    let mut out = [0i64; 16384];
+    let mut base = [0u32; Plan::BASE];
+    let mut spans = [0u64; Plan::SPANS];
+    let mut edges = [0u16; Plan::EDGES];
+    let mut routes = [0u16; Plan::ROUTES];
+    let mut times = [0u64; Plan::TIMES];
+    let mut out = [0i64; NUMBERS];
     let e = end_of(input, from);
     let at = least(e + 1, input.len());
     let end = skip(input, at);

@@ -1,188 +1,145 @@
--- The counts among the words, whatever they are: one stop, and the loops over stops of `unassign` and `assign`. Assumes nothing.
+-- How often each job is in force: one stop, and the loops over stops of `unassign` and `assign`. Assumes nothing.
 use Prim.Native.Nat.{ℕ, _+_, _-_, _/_, _≤_, _<_}
+use native.Mathlib.Numerals.{add-one}
 use native.Mathlib.Omega.{arith}
-use mathlib.Core.Path.{_≡_, refl, sym, ap, _∙_}
-use mathlib.Core.Bool.{Bool, true, false, cond}
-use mathlib.Core.List.{List, [], _∷_, _++_}
-use lib.ListN.{length, getD, set, take, drop, length-append, length-set, length-drop, take-append-drop, List·getD-append}
-use lib.Seq.{getD-take, length-take-le}
-use borrow.Author.Tests.{lt-ltb, le-ltb}
-use Rattle.rules.proofs.Ranges.{Test, pass, fail, test, clash}
-use Rattle.edges.specs.Raw.{put}
-use Rattle.edges.proofs.Tabs.{At, at, part-read, part-put}
-use Rattle.routes.specs.declared.rows.Done.{Done}
-use Rattle.routes.specs.declared.rows.Done.the-variants.{Fine, Bad}
-use Rattle.routes.specs.Counts.{stepped, canStep, canCount, countOne, Tally, tally, doneOf, countsIn, Tallied}
-
--- ── the counts in their place ──
-
-module _ (r : List ℕ) (long : length r ≡ 1794) where
-  parts : r ≡ take 1217 r ++ (countsIn r ++ drop 512 (drop 1217 r))
-  parts = sym (ap (λ (z : List ℕ). take 1217 r ++ z) (take-append-drop 512 (drop 1217 r)) ∙ take-append-drop 1217 r)
-
-  front-long : length (take 1217 r) ≡ 1217
-  front-long = length-take-le 1217 r (omega arith)
-
-  counts-long : length (countsIn r) ≡ 512
-  counts-long = length-take-le 512 (drop 1217 r) (rw length-drop (omega arith))
-
-  window : At r 1217 512 (countsIn r) (put 1217 512 r)
-  window = at r (take 1217 r) (countsIn r) (drop 512 (drop 1217 r)) 1217 512 (put 1217 512 r) parts front-long counts-long (λ y. refl)
-
-  pub put-same : put 1217 512 r (countsIn r) ≡ r
-  put-same = sym parts
-
-  module _ (a : List ℕ) (la : length a ≡ 512) where
-    pub put-long : length (put 1217 512 r a) ≡ 1794
-    put-long = simp (length-append, length-drop) (omega (arith, front-long))
-
-    pub put-counts : countsIn (put 1217 512 r a) ≡ a
-    put-counts = part-read (put 1217 512 r a) (take 1217 r) a (drop 512 (drop 1217 r)) 1217 512 refl front-long la
-
-    put-again : (y : List ℕ) → put 1217 512 (put 1217 512 r a) y ≡ put 1217 512 r y
-    put-again y = part-put (put 1217 512 r a) (take 1217 r) a (drop 512 (drop 1217 r)) y 1217 512 refl front-long la
-
-    -- the entries stay
-    put-below : (j : ℕ) → j < 1217 → getD (put 1217 512 r a) j 0 ≡ getD r j 0
-    put-below j h =
-        List·getD-append (take 1217 r) (a ++ drop 512 (drop 1217 r)) 0 j (rw front-long h) ∙ getD-take 1217 r j 0 h
-
-count-long : (b : Bool) (a : List ℕ) (w : ℕ) → length a ≡ 512 → length (countOne b a w) ≡ 512
-count-long b a w la = length-set a (w / 2) (stepped b (getD a (w / 2) 0)) ∙ la
+use mathlib.Core.Path.{_≡_, refl, sym, _∙_}
+use mathlib.Core.Bool.{Bool, true, false}
+use mathlib.Core.List.{List, [], _∷_, map}
+use mathlib.Core.Logic.{⊎-elim}
+use lib.ListN.{length, getD, set, drop, length-set}
+use lib.Seq.{slice-cons, slice-empty, set-out, getD-set-same, getD-set-other}
+use borrow.Author.Needs.{needs}
+use borrow.Author.Tests.{eq-eqb, ne-eqb}
+use Rattle.rules.specs.Sizes.{mostJobs, mostEntries, routesLength}
+use Rattle.rules.specs.Scores.{timesIn}
+use Rattle.rules.specs.Routes.{Stop}
+use Rattle.rules.proofs.Ranges.{same}
+use Rattle.edges.specs.Raw.{mid, put}
+use Rattle.routes.specs.Stops.{word, words}
+use Rattle.routes.specs.Store.{stopsAt, assignedAt}
+use Rattle.routes.specs.Counting.{stepped, countOne, countAll, stopsIn, recountIn}
+use Rattle.words.proofs.Rows.{row-cons, row-none}
+use Rattle.routes.proofs.Lists.{bit-one, bit-none}
+use Rattle.routes.proofs.Codes.{half}
+use Rattle.routes.proofs.Windows.{mid-long, mid-put, put-put, put-mid, mid-below, mid-at}
 
 -- ── one stop ──
 
-module _ (b : Bool) (r : List ℕ) (w : ℕ) (long : length r ≡ 1794) where
-  first : (t : Bool) → canCount b (countsIn r) w ≡ t
-      → tally b (countsIn r) (w ∷ [])
-      ≡ cond t (record { fine = true; counts = countOne b (countsIn r) w }) (record { fine = false; counts = countsIn r })
-  unfolding tally
-  first t e = rw e
+module _ (b : Bool) (c : ℕ) where
+  pub step-up : b ≡ true → c < 65535 → c + 1 ≡ stepped b c
+  step-up q h = rw q (omega arith)
 
-  refused : canCount b (countsIn r) w ≡ false → Tallied b (w ∷ []) r r Bad
-  refused e = record {
-    answer = sym (ap (λ (x : Tally). doneOf (x .fine)) (first false e));
-    left = sym (ap (λ (x : Tally). put 1217 512 r (x .counts)) (first false e) ∙ put-same r long);
-  }
+  pub step-full : b ≡ true → 65535 ≤ c → 65535 ≡ stepped b c
+  step-full q h = rw q (omega arith)
 
-  pub one-far : (j : ℕ) → j ≡ w / 2 → 512 ≤ j → Tallied b (w ∷ []) r r Bad
-  one-far j e h = refused (rw (le-ltb (w / 2) 512 (omega arith)))
+  pub step-down : b ≡ false → c - 1 ≡ stepped b c
+  step-down q = rw q
 
-  module _ (j : ℕ) (ej : j ≡ w / 2) (near : j < 512) where
-    read : getD r (1217 + j) 0 ≡ getD (countsIn r) (w / 2) 0
-    read = window r long .get j near ∙ ap (λ (k : ℕ). getD (countsIn r) k 0) ej
+  pub step-empty : b ≡ false → c ≤ 0 → 0 ≡ stepped b c
+  step-empty q h = rw q (omega arith)
 
-    can : (t : Bool) → canStep b (getD r (1217 + j) 0) ≡ t → canCount b (countsIn r) w ≡ t
-    can t e = rw (lt-ltb (w / 2) 512 (omega arith)) (ap (canStep b) (sym read) ∙ e)
+module _ (b : Bool) (a : List ℕ) (w j : ℕ) (e : j ≡ w / 2) where
+  pub count-out : length a ≡ mostJobs → mostJobs ≤ j → a ≡ countOne b a w
+  count-out l h = sym (set-out a (w / 2) (stepped b (getD a (w / 2) 0)) (omega arith))
 
-    one-stuck : canStep b (getD r (1217 + j) 0) ≡ false → Tallied b (w ∷ []) r r Bad
-    one-stuck e = refused (can false e)
+  pub count-in : (c : ℕ) → c ≡ stepped b (getD a j 0) → set a j c ≡ countOne b a w
+  count-in c q = rw (q, e)
 
-    one-counted : (x : ℕ) → canStep b (getD r (1217 + j) 0) ≡ true → x ≡ stepped b (getD r (1217 + j) 0)
-        → Tallied b (w ∷ []) r (set r (1217 + j) x) Fine
-    one-counted x e q =
-        let f = first true (can true e) in
-        record {
-          answer = sym (ap (λ (x : Tally). doneOf (x .fine)) f);
-          left = window r long .store j x near
-              ∙ ap (λ (k : ℕ). put 1217 512 r (set (countsIn r) k x)) ej
-              ∙ ap (λ (c : ℕ). put 1217 512 r (set (countsIn r) (w / 2) c)) (q ∙ ap (stepped b) read)
-              ∙ sym (ap (λ (x : Tally). put 1217 512 r (x .counts)) f);
-        }
-
--- the two ways: a count at its end stays
-module _ (r : List ℕ) (w : ℕ) (long : length r ≡ 1794) (j : ℕ) (ej : j ≡ w / 2) (near : j < 512) where
-  pub none-left : getD r (1217 + j) 0 ≡ 0 → Tallied false (w ∷ []) r r Bad
-  none-left e = one-stuck false r w long j ej near (le-ltb 0 (getD r (1217 + j) 0) (omega arith))
-
-  pub one-less : (getD r (1217 + j) 0 ≡ 0 → ⊥) → Tallied false (w ∷ []) r (set r (1217 + j) (getD r (1217 + j) 0 - 1)) Fine
-  one-less e = one-counted false r w long j ej near _ (lt-ltb 0 (getD r (1217 + j) 0) (omega arith)) refl
-
-  pub all-there : getD r (1217 + j) 0 ≡ 65535 → Tallied true (w ∷ []) r r Bad
-  all-there e = one-stuck true r w long j ej near (le-ltb (getD r (1217 + j) 0) 65535 (omega arith))
-
-  pub one-more : getD r (1217 + j) 0 ≤ 65535 → (getD r (1217 + j) 0 ≡ 65535 → ⊥)
-      → Tallied true (w ∷ []) r (set r (1217 + j) (getD r (1217 + j) 0 + 1)) Fine
-  one-more few e = one-counted true r w long j ej near _ (lt-ltb (getD r (1217 + j) 0) 65535 (omega arith)) refl
+pub ruleset counting = (needs, step-up, step-full, step-down, step-empty, count-out, count-in)
 
 -- ── stop after stop ──
 
--- the stops that are left, from the counts that are there now, come to what all of them come to
-pub record Tallying (b : Bool) (l r₀ r rest : List ℕ) : Type 0 where
-  pub long : length r ≡ 1794
-  pub only : r ≡ put 1217 512 r₀ (countsIn r)
-  pub same : tally b (countsIn r) rest ≡ tally b (countsIn r₀) l
+pub count-long : (b : Bool) (a l : List ℕ) → length (countAll b a l) ≡ length a
+unfolding countAll
+count-long b a [] = refl
+count-long b a (w ∷ l) = count-long b (countOne b a w) l ∙ simp length-set
 
-pub tallying-start : {b : Bool} {l r : List ℕ} → length r ≡ 1794 → Tallying b l r r l
-tallying-start {b} {l} {r} long = record { long = long; only = sym (put-same r long); same = refl }
+-- once the rest of the stops is counted, all are
+pub record Assigning (a₀ s a : List ℕ) (i : ℕ) : Type 0 where
+  pub rest : countAll true a (drop i s) ≡ countAll true a₀ s
 
-not-fine : {A : Type 0} (b : Bool) → Fine ≡ doneOf b → b ≡ false → A
-not-fine true e q = clash refl q
-not-fine false e q = let z : _≡_ {A = ℕ} 0 1 = cc in absurd (omega arith)
+pub assign-none : (a s : List ℕ) → Assigning a s a 0
+assign-none a s = record { rest = refl }
 
-not-bad : {A : Type 0} (b : Bool) → Bad ≡ doneOf b → b ≡ true → A
-not-bad true e q = let z : _≡_ {A = ℕ} 0 1 = cc in absurd (omega arith)
-not-bad false e q = clash q refl
+module _ {a₀ s a : List ℕ} {i : ℕ} (k : Assigning a₀ s a i) where
+  pub assign-on : {a₁ : List ℕ} → a₁ ≡ countOne true a (getD s i 0) → i < length s → Assigning a₀ s a₁ (i + 1)
+  unfolding countAll
+  assign-on e h = record { rest = rw e (sym (rw (row-cons s i h)) ∙ k .rest) }
 
-module _ {b : Bool} {l r₀ r rest : List ℕ} (long₀ : length r₀ ≡ 1794) (k : Tallying b l r₀ r rest) where
-  -- an entry is the one that it was
-  pub tallying-entry : (j : ℕ) → j < 1217 → getD r j 0 ≡ getD r₀ j 0
-  tallying-entry j h =
-      ap (λ (z : List ℕ). getD z j 0) (k .only) ∙ put-below r₀ long₀ (countsIn r) (counts-long r (k .long)) j h
+  pub assign-done : length s ≤ i → a ≡ countAll true a₀ s
+  unfolding countAll
+  assign-done h = sym (rw (row-none s i h)) ∙ k .rest
 
-  module _ {w : ℕ} {rest₁ r₁ : List ℕ} {d : Done} (next : rest ≡ w ∷ rest₁) (s : Tallied b (w ∷ []) r r₁ d) where
-    opened : (t : Bool) → canCount b (countsIn r) w ≡ t
-        → tally b (countsIn r) rest ≡ cond t (tally b (countOne b (countsIn r) w) rest₁) (record { fine = false; counts = countsIn r })
-    unfolding tally
-    opened t e = ap (tally b (countsIn r)) next ∙ rw e
+pub ruleset assigning = (needs, assign-none, assign-on, assign-done)
 
-    could : d ≡ Fine → canCount b (countsIn r) w ≡ true
-    could q = go (test (canCount b (countsIn r) w))
-      where
-        go : Test (canCount b (countsIn r) w) → canCount b (countsIn r) w ≡ true
-        go (pass e) = e
-        go (fail e) =
-            not-fine (tally b (countsIn r) (w ∷ []) .fine) (sym q ∙ s .answer)
-            (ap (λ (x : Tally). x .fine) (first b r w (k .long) false e))
+-- ── stops of the words ──
 
-    could-not : d ≡ Bad → canCount b (countsIn r) w ≡ false
-    could-not q = go (test (canCount b (countsIn r) w))
-      where
-        go : Test (canCount b (countsIn r) w) → canCount b (countsIn r) w ≡ false
-        go (fail e) = e
-        go (pass e) =
-            not-bad (tally b (countsIn r) (w ∷ []) .fine) (sym q ∙ s .answer) (ap (λ (x : Tally). x .fine) (first b r w (k .long) true e))
+pub record Unassigning (r₀ : List ℕ) (f t : ℕ) (r : List ℕ) (i : ℕ) : Type 0 where
+  pub rest : recountIn false (stopsIn r i t) r ≡ recountIn false (stopsIn r₀ f t) r₀
 
-    pub tallying-on : d ≡ Fine → Tallying b l r₀ r₁ rest₁
-    tallying-on q =
-        let e = could q in
-        let a : List ℕ = countOne b (countsIn r) w in
-        let la : length a ≡ 512 = count-long b (countsIn r) w (counts-long r (k .long)) in
-        let is : r₁ ≡ put 1217 512 r a = s .left ∙ ap (λ (x : Tally). put 1217 512 r (x .counts)) (first b r w (k .long) true e) in
-        let now : countsIn r₁ ≡ a = ap countsIn is ∙ put-counts r (k .long) a la in
-        let within : put 1217 512 r a ≡ put 1217 512 r₀ a =
-        ap (λ (z : List ℕ). put 1217 512 z a) (k .only) ∙ put-again r₀ long₀ (countsIn r) (counts-long r (k .long)) a in
-        record {
-          long = ap length is ∙ put-long r (k .long) a la;
-          only = is ∙ within ∙ ap (put 1217 512 r₀) (sym now);
-          same = ap (λ (z : List ℕ). tally b z rest₁) now ∙ sym (opened true e) ∙ k .same;
-        }
+pub unassign-none : (r : List ℕ) (f t : ℕ) → Unassigning r f t r f
+unassign-none r f t = record { rest = refl }
 
-    pub tallying-bad : d ≡ Bad → Tallied b l r₀ r₁ Bad
-    tallying-bad q =
-        let e = could-not q in
-        let t : tally b (countsIn r₀) l ≡ record { fine = false; counts = countsIn r } = sym (k .same) ∙ opened false e in
-        let is : r₁ ≡ r = s .left ∙ ap (λ (x : Tally). put 1217 512 r (x .counts)) (first b r w (k .long) false e) ∙ put-same r (k .long) in
-        record {
-          answer = sym (ap (λ (x : Tally). doneOf (x .fine)) t);
-          left = is ∙ k .only ∙ sym (ap (λ (x : Tally). put 1217 512 r₀ (x .counts)) t);
-        }
-
-  pub tallying-done : rest ≡ [] → Tallied b l r₀ r Fine
-  unfolding tally
-  tallying-done q =
-      let t : tally b (countsIn r₀) l ≡ record { fine = true; counts = countsIn r } = sym (k .same) ∙ ap (tally b (countsIn r)) q in
+module _ {r₀ : List ℕ} {f t : ℕ} {r : List ℕ} {i : ℕ} (k : Unassigning r₀ f t r i) (l : length r ≡ routesLength) (few : t ≤ mostEntries) where
+  pub unassign-on : {y : List ℕ} → y ≡ countOne false (mid assignedAt mostJobs r) (getD r (stopsAt + i) 0) → i < t
+      → Unassigning r₀ f t (put assignedAt mostJobs r y) (i + 1)
+  unfolding recountIn countAll
+  unassign-on {y} e h =
+      let m : length (mid stopsAt mostEntries r) ≡ mostEntries = mid-long stopsAt mostEntries r (omega arith) in
+      let n : length y ≡ mostJobs = rw (e, length-set) (mid-long assignedAt mostJobs r (omega arith)) in
       record {
-        answer = sym (ap (λ (x : Tally). doneOf (x .fine)) t);
-        left = k .only ∙ sym (ap (λ (x : Tally). put 1217 512 r₀ (x .counts)) t);
+        rest = rw (
+          mid-put assignedAt mostJobs r (omega arith) y n,
+          put-put assignedAt mostJobs r (omega arith) y n,
+          mid-below assignedAt mostJobs r (omega arith) stopsAt mostEntries y (omega arith),
+          e,
+          ← mid-at stopsAt mostEntries r i (omega arith),
+          add-one i,
+        )
+            (sym (rw (slice-cons i t (mid stopsAt mostEntries r) 0 h (omega arith))) ∙ k .rest);
       }
+
+  pub unassign-done : t ≤ i → i ≤ t → r ≡ recountIn false (stopsIn r₀ f t) r₀
+  unfolding recountIn countAll
+  unassign-done h j =
+      let q : t ≡ i = omega arith in
+      sym (rw (q, slice-empty i (mid stopsAt mostEntries r)) (put-mid assignedAt mostJobs r (omega arith))) ∙ k .rest
+
+pub ruleset unassigning = (needs, unassign-none, unassign-on, unassign-done)
+
+-- ── what the stops of a route come to ──
+
+abbrev jobsIn : List Stop → List ℕ
+jobsIn = map (λ (s : Stop). s .0)
+
+module _ (b : Bool) (a : List ℕ) (s : Stop) (v : ℕ) where
+  counted-own : s .0 ≡ v → v < length a → getD (countOne b a (word s)) v 0 ≡ stepped b (getD a v 0)
+  counted-own q h = rw (half (s .0) (s .1), q) (getD-set-same a v (stepped b (getD a v 0)) 0 h)
+
+  counted-other : (v ≡ s .0 → ⊥) → getD (countOne b a (word s)) v 0 ≡ getD a v 0
+  counted-other q = rw (half (s .0) (s .1)) (getD-set-other a (s .0) v (stepped b (getD a (s .0) 0)) 0 q)
+
+pub counted-less : (l : List Stop) (a : List ℕ) (v : ℕ) → v < length a
+    → getD (countAll false a (words l)) v 0 ≡ getD a v 0 - timesIn v (jobsIn l)
+unfolding countAll
+counted-less [] a v h = omega arith
+counted-less (s ∷ l) a v h =
+    let ih = counted-less l (countOne false a (word s)) v (rw length-set h) in
+    ⊎-elim (λ (q : v ≡ s .0). omega (arith, counted-own false a s v (sym q) h, bit-one (eq-eqb v (s .0) q)))
+    (λ q. omega (arith, counted-other false a s v q, bit-none (ne-eqb v (s .0) q))) (same v (s .0))
+
+pub counted-more : (l : List Stop) (a : List ℕ) (v : ℕ) → v < length a → getD a v 0 + timesIn v (jobsIn l) ≤ 65535
+    → getD (countAll true a (words l)) v 0 ≡ getD a v 0 + timesIn v (jobsIn l)
+unfolding countAll
+counted-more [] a v h k = omega arith
+counted-more (s ∷ l) a v h k = ⊎-elim
+    (λ (q : v ≡ s .0).
+    let c = counted-own true a s v (sym q) h in
+    let d = bit-one (eq-eqb v (s .0) q) in
+    let ih = counted-more l (countOne true a (word s)) v (rw length-set h) (omega arith) in
+    omega arith)
+    (λ q.
+    let c = counted-other true a s v q in
+    let d = bit-none (ne-eqb v (s .0) q) in
+    let ih = counted-more l (countOne true a (word s)) v (rw length-set h) (omega arith) in
+    omega arith) (same v (s .0))

@@ -1,21 +1,15 @@
 -- A plan's desk as the words of layers 1 and 2 hold it: the models of the edges and of the routes are functions of the plan. Assumes
 -- nothing.
 use Prim.Native.Nat.{ℕ}
-use mathlib.Core.List.{List, map}
+use mathlib.Core.List.{List}
 use Rattle.rules.specs.Lists.{table}
 use Rattle.rules.specs.Sizes.{mostJobs, mostOwners}
-use Rattle.rules.specs.Routes.{Plan, routeOf, outs, holders, violationsOf}
+use Rattle.rules.specs.Routes.{Plan, routeOf, violationsOf}
 use Rattle.rules.specs.Scores.{assigned}
 use Rattle.rules.specs.Sound.{Sound}
-use Rattle.edges.specs.Edges.{Edge, Model as EdgeModel, Holds as EdgesHold}
+use Rattle.edges.specs.Edges.{Holds as EdgesHold}
+unfoldable pub use Rattle.edges.specs.Plans.{edgesFrom, edgesOf}
 use Rattle.routes.specs.Store.{Model, Holds}
-
--- the edges out of u, each with how many hold it
-unfoldable pub edgesFrom : Plan → ℕ → List Edge
-edgesFrom p u = map (λ (v : ℕ). record { to = v; times = holders (p .base) (p .desk .routes) (u, v) }) (outs (p .desk .heads) u)
-
-unfoldable pub edgesOf : Plan → EdgeModel
-edgesOf p = record { succ = table mostJobs (edgesFrom p); pred = table mostJobs (outs (p .desk .tails)) }
 
 unfoldable pub routesOf : Plan → Model
 routesOf p = record {

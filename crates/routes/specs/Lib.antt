@@ -1,7 +1,12 @@
 -- The definitions that the contracts of `routes` cite. Assumes nothing.
+pub mod Stops
+pub mod Asks
+pub mod Snapped
 pub mod Store
-pub mod Spans
+pub mod Handing
+pub mod Counting
 pub mod Raw
-pub mod Counts
-pub mod Freed
+pub mod Differs
+pub mod Turning
 pub mod Desks
+pub mod Promises

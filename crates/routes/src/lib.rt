@@ -1,18 +1,32 @@
-// Layer 2, the routes in force, in one lent slice of words:
-//   0..65        off         where each owner's stops start, and the total
-//   65..1089     entries     the stops, owner after owner, then zeros; a stop is job * 2, and 1 more if it is joined to the one before
-//   1089..1153   invalid     how many entries of each owner's route were no jobs
-//   1153..1217   violations
-//   1217..1729   assigned    how often each job is in force
-//   1729         how many owners wait
-//   1730..1794   waiting     in the order they began to wait, then zeros
-// Any contents are safe: what makes no sense is answered by `Bad`.
-// What a put asks and what becomes of its edges stand in crates beneath; here is the whole layer.
-pub use asks::ask;
-pub use asks::snap;
-pub use exchanges::difference;
-pub use exchanges::exchange;
-
-pub mod assigned;
+// Layer 2, the routes in force, in one lent slice of words. From word 0 on stands where each owner's stops start, and where all end; then,
+// from the places named here:
+//   STOPS      the stops, owner after owner, then zeros; a stop is its job twice, and 1 more if it is joined to the one before
+//   INVALID    how many entries of each owner's route were no jobs
+//   VIOLATED   the violations of each owner's route
+//   ASSIGNED   how often each job is in force
+//   WAITERS    how many owners wait
+//   WAITING    who waits, in the order they began to, then zeros
+// Only this crate knows these places; the others are handed rows and answers. Any contents are safe.
+pub mod ask;
+mod counts;
+mod difference;
+pub mod exchange;
+pub mod route;
 pub mod rows;
+pub mod snap;
+mod splices;
 pub mod wait;
+
+use rules::Plan;
+
+const STOPS: usize = Plan::OWNERS + 1;
+
+const INVALID: usize = STOPS + Plan::ENTRIES;
+
+const VIOLATED: usize = INVALID + Plan::OWNERS;
+
+const ASSIGNED: usize = VIOLATED + Plan::OWNERS;
+
+const WAITERS: usize = ASSIGNED + Plan::JOBS;
+
+const WAITING: usize = WAITERS + 1;

@@ -12,8 +12,7 @@ use borrow.Author.Tests.{eq-eqb, ne-eqb}
 use Rattle.rules.specs.Demands.{edgesOf}
 use Rattle.rules.specs.Graphs.{Graph, Leads, along, here}
 use Rattle.rules.specs.Lists.{Once, Pair, greatest, isZero, keep, memb, samePair, sumBelow, sumOf, tick, times}
-use Rattle.rules.specs.Routes.{Heads, Plan, Route, Stop, butLast, emptyRoute, holders, inForce, jobsOf, lastFirst, links, linksOf}
-use Rattle.rules.specs.Routes.{live, outs, vanish, violates}
+use Rattle.rules.specs.Routes.{Heads, Plan, Route, Stop, butLast, emptyRoute, holders, inForce, jobsOf, lastFirst, links, linksOf, live, outs, vanish, violates}
 use Rattle.rules.specs.Scores.{Within, assigned, assignment, assignmentPenalty, cyclePenalty, finish, floorOf, hardPenalty}
 use Rattle.rules.specs.Scores.{invalidEntries, invalidFixed, isCyclic, makespan, score, timesIn, violations, violationsFrom}
 use Rattle.rules.specs.Sizes.{Base, duration, longest, mostEntries, mostFixed, mostJobs, mostOwners, validFixed}

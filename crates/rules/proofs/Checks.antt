@@ -14,9 +14,8 @@ use lib.ListN.{length, getD, take, drop, take-append-drop, length-take, length-d
 use lib.Seq.{take-add}
 use borrow.Author.Tests.{eq-eqb, eqb-true, not-true, ltb-true, leb-true}
 use Rattle.rules.specs.Graphs.{Cycle, Graph, Trail, end, go}
-use Rattle.rules.specs.Lists.{Once, Pair, allBelow, count, distinct, isZero, less, memb, nobody, samePair, sumBelow, sumOf, tick}
-use Rattle.rules.specs.Lists.{times}
-use Rattle.rules.specs.Moves.{AddedCycle, Move, added, fullCheck, goodPositions, insertAt, isFixed, isMovedCyclic, isMovedQuick, leads, movedAdded, stepsOf}
+use Rattle.rules.specs.Lists.{Once, Pair, allBelow, count, distinct, isZero, less, memb, nobody, samePair, sumBelow, sumOf, tick, times}
+use Rattle.rules.specs.Moves.{AddedCycle, Move, fullCheck, goodPositions, insertAt, isFixed, isMovedCyclic, isMovedQuick, leads, movedAdded, stepsOf}
 use Rattle.rules.specs.Moves.{list-change, moved, movedOn, movedStays, neighbours, newRoute, occurs, permutation, quickCheck}
 use Rattle.rules.specs.Moves.{remove, slice, sublist-change, sublist-swap, swapped}
 use Rattle.rules.specs.Routes.{Plan, Stop, invalidOf, jobsOf, links, linksOf, live, read, routeOf, stopsOf}
@@ -27,8 +26,7 @@ use Rattle.rules.proofs.Bounds.{sum-const, sum-places}
 use Rattle.rules.proofs.Cycles.{reach-of, simple, trail-append, trail-least}
 use Rattle.rules.proofs.Members.{once-count, or-true}
 use Rattle.rules.proofs.Plans.{cyclic-cycle}
-use Rattle.rules.proofs.Ranges.{Test, and-true, below, clash, count-all, count-less, count-zero, fail, less-other, less-self}
-use Rattle.rules.proofs.Ranges.{nobody-false, nobody-true, pass, test}
+use Rattle.rules.proofs.Ranges.{Test, and-true, below, clash, count-all, count-less, count-zero, fail, less-other, less-self, nobody-false, nobody-true, pass, test}
 use Rattle.rules.proofs.Stages.{all-valid, stops-joined}
 use Rattle.rules.proofs.Verdicts.{order-cycle}
 use Rattle.rules.proofs.Walks.{or-right}

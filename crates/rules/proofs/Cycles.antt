@@ -15,8 +15,7 @@ use Rattle.rules.specs.Lists.{Once, less, memb, nobody}
 use Rattle.rules.specs.Shown.{closes, cycle, cycleAt, reach, trail}
 use Rattle.rules.proofs.Members.{once-count, or-true}
 use Rattle.rules.proofs.Orders.{Circuit, Walk, more, one}
-use Rattle.rules.proofs.Ranges.{Found, Test, and-true, clash, count-all, count-less, fail, found, hit, less-other, miss}
-use Rattle.rules.proofs.Ranges.{nobody-false, nobody-true, pass, same, test}
+use Rattle.rules.proofs.Ranges.{Found, Test, and-true, clash, count-all, count-less, fail, found, hit, less-other, miss, nobody-false, nobody-true, pass, same, test}
 
 module _ (n : ℕ) (E : ℕ → ℕ → Bool) where
   pub reach-of : {u v : ℕ} {l : List ℕ} → Trail n E u l v → reach n E (length l) u v ≡ true

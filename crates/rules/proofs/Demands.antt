@@ -1,16 +1,13 @@
 -- Demand 3 and the limits, of the plan after any history of calls: the last theorem here is what the others are for. Assumes nothing.
-use Prim.Native.Nat.{ℕ, _+_, _-_, _*_, _≤_, _<_}
+use Prim.Native.Nat.{ℕ, _-_, _<_}
 use mathlib.Core.Path.{_≡_, refl, subst}
 use mathlib.Core.Bool.{true, false}
 use mathlib.Core.Option.{none, some}
-use mathlib.Core.Logic.{_⊎_, inl, inr, _↔_}
+use mathlib.Core.Logic.{_⊎_, inl, inr}
 use mathlib.Core.List.{List}
 use Rattle.rules.specs.Calls.{Call, run}
-use Rattle.rules.specs.Graphs.{GreatestSum, LineUp, LowestCycle, LowestLineUp}
-use Rattle.rules.specs.Routes.{Plan, inForce, isHeld, live}
-use Rattle.rules.specs.Scores.{Within, cyclePenalty, finish, floorOf, isCyclic, makespan, score, starts}
-use Rattle.rules.specs.Shown.{shownCycle, shownLineUp}
-use Rattle.rules.specs.Sizes.{duration, longest, mostEntries, mostFixed, mostJobs}
+use Rattle.rules.specs.Routes.{Plan}
+use Rattle.rules.specs.Scores.{cyclePenalty, finish, isCyclic, makespan}
 use Rattle.rules.specs.Sound.{Sound}
 use Rattle.rules.specs.Demands.{Calm, Looped, Standing}
 use Rattle.rules.proofs.Bounds.{edges-few, makespan-few, score-within}

@@ -11,14 +11,11 @@ use lib.ListN.{length, getD, replicate, length-replicate}
 use borrow.Author.Tests.{eqb-true, leb-false, ltb-true, ltb-false, not-true, not-false}
 use Rattle.rules.specs.declared.Refusal.{Refusal}
 use Rattle.rules.specs.declared.Refusal.the-variants.{ShortStore}
-use Rattle.rules.specs.Calls.{Ask, Call, Turn, accepted, checksOf, decide, reads, refusal, run, step, to-blocks, to-load, to-move}
-use Rattle.rules.specs.Calls.{to-put, to-reset, to-retract, to-score, to-starts, to-verdict}
+use Rattle.rules.specs.Calls.{Ask, Call, Turn, accepted, checksOf, decide, reads, refusal, run, step, to-blocks, to-load, to-move, to-put, to-reset, to-retract, to-score, to-starts, to-verdict}
 use Rattle.rules.specs.Lists.{Pair, anyOf, isZero, keep, memb, sumOf, times}
 use Rattle.rules.specs.Refusals.{Check, firstOf, loadChecks, noOwner, noRoom, tooMany}
-use Rattle.rules.specs.Routes.{Heads, Plan, Route, State, adds, emptyRoute, fresh, holders, inForce, linksOf, putPlan, turned}
-use Rattle.rules.specs.Routes.{wait}
-use Rattle.rules.specs.Sizes.{Base, Loading, badFrom, baseOf, breaksSize, falls, fitsSizes, hasLong, isLong, isShort, longest}
-use Rattle.rules.specs.Sizes.{mostEntries, mostFixed, mostJobs, mostOwners, pairUp, validFixed}
+use Rattle.rules.specs.Routes.{Heads, Plan, Route, State, adds, emptyRoute, fresh, holders, inForce, linksOf, putPlan, turned, wait}
+use Rattle.rules.specs.Sizes.{Base, Loading, badFrom, baseOf, breaksSize, falls, fitsSizes, hasLong, isLong, isShort, longest, mostEntries, mostFixed, mostJobs, mostOwners, pairUp, validFixed}
 use Rattle.rules.specs.Sound.{Loaded, Sound, Inside, Kept, Tidy}
 use Rattle.rules.proofs.Members.{once-snoc, or-false}
 use Rattle.rules.proofs.Puts.{put-sound}
@@ -109,7 +106,7 @@ blank zero u = refl
 blank (suc n) zero = refl
 blank (suc n) (suc u) = blank n u
 
-blank-route : (n o : ℕ) → getD (replicate n emptyRoute) o emptyRoute ≡ emptyRoute
+pub blank-route : (n o : ℕ) → getD (replicate n emptyRoute) o emptyRoute ≡ emptyRoute
 blank-route zero o = refl
 blank-route (suc n) zero = refl
 blank-route (suc n) (suc o) = blank-route n o
@@ -136,7 +133,7 @@ fresh-kept n l ok = record {
 pub kept-as : (n : ℕ) (c d : Pair → ℕ) (t : Heads) → ((e : Pair) → c e ≡ d e) → Kept n c t → Kept n d t
 kept-as n c d t h K = record { tidy = K .tidy; held = λ u v. K .held u v ∙ ap (λ (x : ℕ). not (isZero x)) (h (u, v)) }
 
-fresh-holders : (b : Base) (e : Pair) → times e (validFixed b) ≡ holders b (replicate (b .owners) emptyRoute) e
+pub fresh-holders : (b : Base) (e : Pair) → times e (validFixed b) ≡ holders b (replicate (b .owners) emptyRoute) e
 unfolding holders
 fresh-holders b e = let a = blank-sum (b .owners) (λ r. times e (linksOf r)) refl in omega arith
 

@@ -114,10 +114,6 @@ module _ (n : ℕ) (E : Graph) (d : ℕ → ℕ) (m : ℕ) where
   abbrev pub SolvesLatest : (ℕ → ℕ) → Type 0
   SolvesLatest t = (v : ℕ) → v < n → t v ≡ least n (E v) t m - d v
 
-  pub latest-top : (k v : ℕ) → latestBy n E d m k v ≤ m
-  latest-top zero v = omega arith
-  latest-top (suc k) v = let a = least-top n (E v) (latestBy n E d m k) m in omega arith
-
   module _ (r : ℕ → ℕ) (ranks : Ranks n E r) where
     -- with k at least the ranks above v, one edge more changes nothing
     pub latest-stays : (k v : ℕ) → v < n → n ≤ k + suc (r v) → latestBy n E d m k v ≡ latestBy n E d m (suc k) v

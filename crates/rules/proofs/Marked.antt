@@ -19,10 +19,8 @@ use Rattle.rules.specs.Lists.{Pair, first, isSome, times}
 use Rattle.rules.specs.Moves.{goodPositions, list-change}
 use Rattle.rules.specs.Refusals.{numberOf}
 use Rattle.rules.specs.Reports.{putReport, putWalk, seeds}
-use Rattle.rules.specs.Routes.{Plan, State, emptied, empty, exchange, fresh, holders, ownStage, putPlan, read, staged, wait}
-use Rattle.rules.specs.Routes.{without}
-use Rattle.rules.specs.Scores.{assignmentPenalty, cyclePenalty, hardPenalty, invalidEntries, invalidFixed, isCyclic, makespan}
-use Rattle.rules.specs.Scores.{noChange, reportedStart, score, starts, violations}
+use Rattle.rules.specs.Routes.{Plan, State, emptied, empty, exchange, fresh, holders, ownStage, putPlan, read, staged, wait, without}
+use Rattle.rules.specs.Scores.{assignmentPenalty, cyclePenalty, hardPenalty, invalidEntries, invalidFixed, isCyclic, makespan, noChange, reportedStart, score, starts, violations}
 use Rattle.rules.specs.Shown.{shownCycle, shownLineUp}
 use Rattle.rules.specs.Sizes.{Lent, badFrom, baseOf, breaksSize, hasLong}
 

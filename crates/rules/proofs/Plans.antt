@@ -45,15 +45,6 @@ shown-cycle p e = go (cycle (p .base .jobs) (live p)) refl (shown (p .base .jobs
     go c q (line-up L) f = clash f refl
     go c q (loop {l} C) f = (l, q, C)
 
--- what is not shown: a plan that is not cyclic shows no cycle, and a cyclic one no line-up
-pub no-shown-cycle : (p : Plan) → isCyclic p ≡ false → shownCycle p ≡ none
-unfolding isCyclic shownLineUp shownCycle
-no-shown-cycle p = go (shown (p .base .jobs) (live p))
-  where
-    go : {o c : Option (List ℕ)} → Shown (p .base .jobs) (live p) o c → not (isSome o) ≡ false → c ≡ none
-    go (line-up L) f = refl
-    go (loop C) f = clash refl f
-
 pub no-shown-line-up : (p : Plan) → isCyclic p ≡ true → shownLineUp p ≡ none
 unfolding isCyclic shownLineUp
 no-shown-line-up p = go (shownLineUp p)

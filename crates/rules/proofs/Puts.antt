@@ -11,14 +11,12 @@ use lib.ListN.{length, length-set}
 use borrow.Author.Tests.{eq-eqb}
 use Rattle.rules.specs.Lists.{Once, Pair, isEmpty, memb}
 use Rattle.rules.specs.Reports.{seeds}
-use Rattle.rules.specs.Routes.{Emptied, Heads, Plan, emptied, empty, emptyRoute, exchange, holders, inForce, isHeld, live, outs}
-use Rattle.rules.specs.Routes.{ownStage, putPlan, read, staged, turned, without}
+use Rattle.rules.specs.Routes.{Emptied, Heads, Plan, emptied, empty, emptyRoute, exchange, holders, inForce, isHeld, live, outs, ownStage, putPlan, read, staged, turned, without}
 use Rattle.rules.specs.Sizes.{Base, mostEntries}
 use Rattle.rules.specs.Sound.{Inside, Kept, Read, Reads, Sound}
 use Rattle.rules.proofs.Members.{or-false}
 use Rattle.rules.proofs.Ranges.{clash}
-use Rattle.rules.proofs.Stages.{empty-read, held-inside, inside-tips, read-read, reads-set}
-use Rattle.rules.proofs.Stages.{staged-inside, staged-kept, staged-same, staged-tails, tips}
+use Rattle.rules.proofs.Stages.{empty-read, held-inside, inside-tips, read-read, reads-set, staged-inside, staged-kept, staged-same, staged-tails, tips}
 use Rattle.rules.proofs.Walks.{or-right, single-in, single-once, single-out}
 
 -- live edges lead between jobs below n

@@ -9,7 +9,7 @@ use mathlib.Core.List.{List, [], _∷_, map}
 use native.Mathlib.Omega.{arith}
 use lib.Dec.{eqb}
 use Rattle.rules.specs.declared.Refusal.{Refusal}
-use Rattle.rules.specs.declared.Refusal.the-variants.{ShortStore, BadStore}
+use Rattle.rules.specs.declared.Refusal.the-variants.{BadStore}
 use Rattle.rules.specs.Calls.{Ask, Call, Turn, accepted, changeOf, checksOf, refusal, refused, reply, step, to-blocks, to-load}
 use Rattle.rules.specs.Calls.{to-move, to-put, to-reset, to-retract, to-score, to-starts, to-verdict}
 use Rattle.rules.specs.Given.{Given, allChecks, by-later, by-this, isPart, refusalOrder, testOf}
@@ -17,7 +17,6 @@ use Rattle.rules.specs.Lists.{anyOf, memb}
 use Rattle.rules.specs.Refusals.{Check, firstOf, numberOf}
 use Rattle.rules.specs.Routes.{State}
 use Rattle.rules.specs.Scores.{noChange}
-use Rattle.rules.specs.Sizes.{isShort}
 use Rattle.rules.proofs.Ranges.{clash}
 
 -- ── what a refused call leaves ──

@@ -13,8 +13,7 @@ use lib.Seq.{getD-set-same, getD-set-other}
 use borrow.Author.Tests.{eqb-true, ltb-true, lt-ltb}
 use Rattle.rules.specs.Lists.{Pair, isZero, keep, memb, samePair, sumOf, tick, times}
 use Rattle.rules.specs.Reports.{headOf}
-use Rattle.rules.specs.Routes.{Heads, Route, Stop, emptyRoute, exchange, holders, invalidOf, links, linksOf, outs, read, relist}
-use Rattle.rules.specs.Routes.{staged, stopsOf, turned}
+use Rattle.rules.specs.Routes.{Heads, Route, Stop, emptyRoute, exchange, holders, invalidOf, links, linksOf, outs, read, relist, staged, stopsOf, turned}
 use Rattle.rules.specs.Sizes.{Base, mostEntries, validFixed}
 use Rattle.rules.specs.Sound.{Inside, Kept, LowStops, Apart, Joined, Read, Reads}
 use Rattle.rules.proofs.Members.{or-false, or-true}

@@ -84,14 +84,6 @@ module _ (n : ℕ) (E : Graph) (f d : ℕ → ℕ) where
 
 -- ── bounds: nothing saturates ──
 
-pub start-bound : (n : ℕ) (E : Graph) (f d : ℕ → ℕ) (low top : ℕ) → ((u : ℕ) → f u ≤ low) → ((u : ℕ) → u < n → d u ≤ top)
-    → (m v : ℕ) → start n E f d m v ≤ low + m * top
-start-bound n E f d low top g h zero v = omega (arith, g v)
-start-bound n E f d low top g h (suc m) v =
-    let z = greatest-lub n (λ u. E u v) (λ u. start n E f d m u + d u) (low + suc m * top)
-    (λ u hu e. let a = start-bound n E f d low top g h m u in let b = h u hu in omega arith) in
-    omega (arith, g v)
-
 -- of starts that are still to be mended too: by k for what they were, and by the rank for what was mended
 pub best-bound : (n : ℕ) (E : Graph) (f d r s : ℕ → ℕ) (low top k : ℕ) → ((u : ℕ) → f u ≤ low) → ((u : ℕ) → u < n → d u ≤ top)
     → Rises n E r

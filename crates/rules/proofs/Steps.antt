@@ -14,8 +14,7 @@ use borrow.Author.Tests.{eq-eqb, eqb-true, eqb-false}
 use Rattle.rules.specs.Calls.{reads}
 use Rattle.rules.specs.Lists.{Once, Pair, isZero, memb, sumOf, times}
 use Rattle.rules.specs.Reports.{push}
-use Rattle.rules.specs.Routes.{Emptied, Plan, Route, emptied, empty, emptyRoute, exchange, holders, inForce, linksOf, live}
-use Rattle.rules.specs.Routes.{ownStage, putPlan, read, routeOf, staged, without}
+use Rattle.rules.specs.Routes.{Emptied, Plan, Route, emptied, empty, emptyRoute, exchange, holders, inForce, linksOf, live, ownStage, putPlan, read, routeOf, staged, without}
 use Rattle.rules.specs.Sizes.{Base, mostEntries}
 use Rattle.rules.specs.Sound.{Sound, Read}
 use Rattle.rules.specs.Steps.{staging, turning, amid, begun, unwaited}
@@ -78,10 +77,6 @@ emptied-all p o = refl
 pub put-turns : (p : Plan) (o : ℕ) (l : List ℕ) → putPlan p o l ≡ unwaited (turning (amid p (emptied p o)) o (read (p .base .jobs) l))
 unfolding putPlan ownStage turning staging
 put-turns p o l = refl
-
-pub own-staging : (p : Plan) (o : ℕ) (l : List ℕ) → ownStage p o l ≡ staging (amid p (emptied p o)) o (read (p .base .jobs) l)
-unfolding ownStage staging
-own-staging p o l = refl
 
 -- ── entries in force ──
 

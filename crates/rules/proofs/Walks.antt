@@ -307,13 +307,6 @@ upd-set a v x h = fun-ext (λ w. look w (same w v))
     look w (inl q) = rw q (upd-same (λ w. getD a w 0) v x ∙ sym (getD-set-same a v x 0 h))
     look w (inr q) = upd-other (λ w. getD a w 0) v x w q ∙ sym (getD-set-other a v w x 0 q)
 
--- one turn of the loop: what is done and what is to do sum to the whole
-pub walk-turn : (n : ℕ) (out : ℕ → List ℕ) (f d : ℕ → ℕ) (k v : ℕ) (q : List ℕ) (s : ℕ → ℕ) (done total : ℕ)
-    → done + walk n out f d (suc k) (v ∷ q) s .visits ≡ total
-    → suc done + walk n out f d k (cond (eqb (best n (edge out) f d s v) (s v)) q (push q (out v)))
-    (upd s v (best n (edge out) f d s v)) .visits ≡ total
-walk-turn n out f d k v q s done total e = omega arith
-
 pub tri-is : (n : ℕ) → 2 * tri n ≡ n * (n + 1)
 tri-is zero = refl
 tri-is (suc n) = let a = tri-is n in omega arith

@@ -44,7 +44,7 @@ abbrev pub baseLength : ℕ
 baseLength = 6661
 
 abbrev pub spansLength : ℕ
-spansLength = 512
+spansLength = mostJobs
 
 abbrev pub edgesLength : ℕ
 edgesLength = 13314

@@ -1,4 +1,4 @@
--- Not of document 01: how far a graph's line-up and starts are, in the words of the rules. The kernels promise by them.
+-- Not of document 01: how far a graph's line-up and starts are, in the words of the rules. The crates starts and shown promise by them.
 use Prim.Native.Nat.{ℕ, _≤_, _<_}
 use mathlib.Core.Path.{_≡_}
 use mathlib.Core.Bool.{true}

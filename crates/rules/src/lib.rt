@@ -2,7 +2,7 @@
 ghost use mathlib.Core.Path.{_≡_};
 ghost use Prim.Native.Nat.{_≤_};
 ghost use lib.Dec.{ltb};
-ghost use Rattle.rules.specs.Sizes.{isShort, fitsSizes, isLong};
+ghost use Rattle.rules.specs.Sizes.{isShort, fitsSizes, isLong, mostEntries};
 ghost use Rattle.rules.specs.Refusals.{numberOf};
 ghost use Rattle.rules.specs.Scores.{scoreOf, minusOf, matchesOf, Within, limit};
 ghost use Rattle.rules.specs.Reports.{visitsOf};
@@ -35,7 +35,7 @@ impl Plan {
     // The store's slices, in words.
     pub const BASE: usize = 6661;
 
-    pub const SPANS: usize = 512;
+    pub const SPANS: usize = Plan::JOBS;
 
     pub const EDGES: usize = 13314;
 
@@ -77,6 +77,13 @@ impl Plan {
         ensures { λ r. ⌜ r ≡ isLong duration ⌝ }
     {
         Plan::LONGEST < duration
+    }
+
+    // A list of entries that put refuses.
+    pub fn too_many(entries: usize) -> bool
+        ensures { λ r. ⌜ r ≡ ltb mostEntries entries ⌝ }
+    {
+        Plan::ENTRIES < entries
     }
 
     // Of slices with these lengths, one is shorter than its constant.

@@ -11,8 +11,7 @@ use Rattle.rules.specs.Lists.{Pair, table, sumOf}
 use Rattle.rules.specs.Sizes.{Loading, baseOf, pairUp, nobodys, mostJobs, baseLength, mostFixed, spansLength}
 use Rattle.rules.specs.Scores.{invalidFixed}
 use Rattle.times.specs.Words.{spanWords}
-use Rattle.stores.specs.Words.{padded, baseWords, fromAt, toAt, expectedAt}
-use Rattle.stores.specs.Words.{strayOf, strays, baseLaid}
+use Rattle.stores.specs.Words.{padded, baseWords, fromAt, toAt, expectedAt, strayOf, strays, baseLaid}
 
 -- ── one list behind the other ──
 

@@ -1,5 +1,4 @@
 -- Laws that belong to no one function. Assumes nothing.
-pub mod Writing
 pub mod Openings
 pub mod Tabled
 pub mod Penalties

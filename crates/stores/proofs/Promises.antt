@@ -25,8 +25,7 @@ use Rattle.stores.specs.Words.{baseWords}
 use Rattle.stores.specs.declared.header.Header.{Header}
 use Rattle.stores.specs.declared.header.Header.the-variants.{Is, Refused}
 use Rattle.stores.specs.Headers.{openOf, countsOf}
-use Rattle.stores.specs.Promise.{Slices, lentOf, callOf, Held, Stands, StandsFor, holding, after, answerOf, Decided, Promise}
-use Rattle.stores.specs.Promise.{refusedBy, laterOf, Heeds}
+use Rattle.stores.specs.Promise.{Slices, lentOf, callOf, Held, Stands, StandsFor, holding, after, answerOf, Decided, Promise, refusedBy, laterOf, Heeds}
 use Rattle.stores.proofs.Openings.{open-short, open-none, open-some}
 
 -- ── what a plan's words leave ──

@@ -5,7 +5,7 @@ use mathlib.Core.Path.{_≡_, refl, sym, ap, _∙_}
 use mathlib.Core.Bool.{false}
 use mathlib.Core.Option.{some}
 use mathlib.Core.List.{List, []}
-use lib.ListN.{length, take, drop}
+use lib.ListN.{length, take, drop, length-take, length-drop}
 use lib.Seq.{sets, length-sets}
 use borrow.Author.Tests.{lt-ltb, le-ltb}
 use Rattle.rules.specs.declared.Plan.{Plan as Counts}
@@ -23,13 +23,14 @@ use Rattle.stores.specs.declared.score.Scored.{Scored}
 use Rattle.stores.specs.declared.score.Scored.the-variants.{Is, Refused}
 use Rattle.stores.specs.Headers.{openOf, countsOf}
 use Rattle.stores.specs.Promise.{Slices, lentOf, Held, Decided, Promise, Reads}
-use Rattle.stores.specs.Sums.{scoredAt}
+use Rattle.stores.specs.Sums.{ScoredBy}
 use Rattle.stores.specs.Says.{places}
-use Rattle.times.specs.Words.{timeWords, startOf}
-use Rattle.stores.proofs.Promises.{closed-kept, opened-kept, decided-refused, decided-read, refusal-long}
-use Rattle.stores.proofs.Promises.{heeds-first, heeds-done, heeds-bad}
-use Rattle.stores.proofs.Scores.{scored-held, scored-twelve}
-use Rattle.stores.proofs.Tabled.{table-length, table-take, table-same, taken-sets, part-slice, places-take}
+use Rattle.times.specs.Words.{startsIn, startsPlace, timeWords, startOf}
+use Rattle.stores.proofs.Promises.{closed-kept, opened-kept, decided-refused, decided-read, refusal-long, heeds-first, heeds-done, heeds-bad}
+use Rattle.stores.proofs.Scores.{scored-held}
+use Rattle.edges.proofs.Listing.{between}
+use Rattle.rules.proofs.Tabled.{table-length, table-same}
+use Rattle.stores.proofs.Tabled.{table-take, taken-sets, places-take}
 
 -- ── score ──
 
@@ -40,14 +41,14 @@ module _ (s : Slices) {h : Header} (opens : h ≡ openOf (lentOf s) (s .base)) w
   pub score-closed : {r : Refusal} → h ≡ Unopened r → Reads to-score s (refused r)
   score-closed = closed-kept to-score s opens [] refl
 
-  module _ {plan : Counts} (is : h ≡ Headed plan) {x : Scored} (tells : x ≡ scoredAt (s .base) (s .routes) (s .times) (plan .jobs)) where
+  module _ {plan : Counts} (is : h ≡ Headed plan) {x : Scored} (tells : ScoredBy (s .base) (s .routes) (s .times) (plan .jobs) x) where
     scored-so : (p : Plan) → Held s p → plan ≡ countsOf (p .base) → x ≡ Is (score p)
-    scored-so p H q = tells ∙ ap (λ (c : Counts). scoredAt (s .base) (s .routes) (s .times) (c .jobs)) q ∙ scored-held s p H
+    scored-so p H q = scored-held s p H tells (ap (λ (c : Counts). c .jobs) q)
 
     pub score-bad : {r : Refusal} → x ≡ Refused r → Reads to-score s (refused r)
     score-bad {r} e = opened-kept to-score s opens s [] [] (refused r) is
         (λ f p H q. absurd (unlike (sym (scored-so p H q) ∙ e)))
-        (heeds-bad to-score s opens (rw is) (ap refused (scored-twelve _ _ _ _ tells e)))
+        (heeds-bad to-score s opens (rw is) (ap refused (tells .twelve r e)))
 
     some-score : isShort (lentOf s) ≡ false → (p : Plan) → Held s p
         → Decided (some p) to-score s s [] [] (counted (score p) (matchesOf (score p)))
@@ -64,12 +65,12 @@ module _ (s : Slices) {h : Header} (opens : h ≡ openOf (lentOf s) (s .base)) w
 -- ── starts ──
 
 -- the starts of a plan, as the times hold them
-pub times-starts : (p : Plan) (l : List ℕ) → take timesLength l ≡ timeWords p → take 512 (drop 2 l) ≡ table mostJobs (startOf p)
+pub times-starts : (p : Plan) (l : List ℕ) → take timesLength l ≡ timeWords p → startsIn l ≡ table mostJobs (startOf p)
 unfolding timeWords
-times-starts p l e = part-slice 2 timesLength l (omega arith) ∙ ap (drop 2) e
+times-starts p l e = between startsPlace timesLength l (omega arith) ∙ ap (drop startsPlace) e
 
 starts-reported : (p : Plan) (l : List ℕ) → take timesLength l ≡ timeWords p → p .base .jobs ≤ mostJobs
-    → take (p .base .jobs) (take 512 (drop 2 l)) ≡ table (p .base .jobs) (reportedStart p)
+    → take (p .base .jobs) (startsIn l) ≡ table (p .base .jobs) (reportedStart p)
 starts-reported p l e h =
     ap (take (p .base .jobs)) (times-starts p l e)
     ∙ table-take (p .base .jobs) mostJobs (startOf p) h
@@ -93,7 +94,7 @@ module _ (s : Slices) (out : List ℕ) {h : Header} (opens : h ≡ openOf (lentO
     some-starts f p H k = decided-read p (to-starts (length out)) s H
         (refusal-long (some p) (to-starts (length out)) s f ∙ rw (le-ltb (length out) (p .base .jobs) k)) out _ refl refl
 
-    pub starts-all : {n : ℕ} {out′ : List ℕ} → n ≡ plan .jobs → n ≤ length out → out′ ≡ sets out 0 (take n (take 512 (drop 2 (s .times))))
+    pub starts-all : {n : ℕ} {out′ : List ℕ} → n ≡ plan .jobs → n ≤ length out → out′ ≡ sets out 0 (take n (startsIn (s .times)))
         → Promise (to-starts (length out)) s s out out′ (started (places n out′))
     starts-all {n} {out′} m k w = opened-kept (to-starts (length out)) s opens s out out′ (started (places n out′)) is (λ f p H q.
         let m′ : n ≡ p .base .jobs = m ∙ ap (λ (c : Counts). c .jobs) q in
@@ -106,3 +107,6 @@ module _ (s : Slices) (out : List ℕ) {h : Header} (opens : h ≡ openOf (lentO
         rw (y, w′) (some-starts f p H (rw m′ at k)))
         (heeds-done (to-starts (length out)) s opens (rw (is, le-ltb (length out) (plan .jobs) (rw m at k)))
         (λ k f. let z : _≡_ {A = ℕ} 0 1 = cc in omega arith))
+
+pub starts-long : (l : List ℕ) {r : List ℕ} → r ≡ startsIn l → timesLength ≤ length l → length r ≡ mostJobs
+starts-long l e h = rw e (simp (length-take, length-drop) (omega arith))

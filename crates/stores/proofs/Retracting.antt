@@ -12,15 +12,15 @@ use Rattle.rules.specs.declared.Plan.{Plan as Counts}
 use Rattle.rules.specs.declared.Refusal.{Refusal}
 use Rattle.rules.specs.declared.Refusal.the-variants.{NoSuchOwner, BadStore}
 use Rattle.rules.specs.Lists.{memb}
-use Rattle.rules.specs.Sizes.{isShort, baseLength, edgesLength, routesLength, timesLength}
+use Rattle.rules.specs.Sizes.{isShort, baseLength, edgesLength, routesLength, spansLength, timesLength}
 use Rattle.rules.specs.Routes.{Plan, live, wait}
 use Rattle.rules.specs.Scores.{noChange}
 use Rattle.rules.specs.Calls.{refused, scored, to-retract, accepted}
-use Rattle.routes.specs.declared.rows.Done.{Done}
-use Rattle.routes.specs.declared.rows.Done.the-variants.{Fine, Bad}
-use Rattle.routes.specs.Store.{Retracted}
+use Rattle.routes.specs.declared.wait.Done.{Done}
+use Rattle.routes.specs.declared.wait.Done.the-variants.{Fine, Bad}
+use Rattle.routes.specs.Promises.{Retracted}
 use Rattle.routes.specs.Desks.{Desked}
-use Rattle.routes.proofs.Retracts.{retracts}
+use Rattle.routes.proofs.Waits.{retracts}
 use Rattle.times.specs.Words.{spanWords, timeWords}
 use Rattle.times.proofs.Timing.{same-words}
 use Rattle.stores.specs.declared.header.Header.{Header}
@@ -28,9 +28,7 @@ use Rattle.stores.specs.declared.header.Header.the-variants.{Is as Heade
 use Rattle.stores.specs.Words.{baseWords}
 use Rattle.stores.specs.Headers.{openOf, countsOf}
 use Rattle.stores.specs.Promise.{Slices, slices, lentOf, Held, holding, Decided, Promise}
-use Rattle.stores.proofs.Promises.{closed-kept, opened-kept, decided-refused, decided-written, refusal-long}
-use Rattle.stores.proofs.Promises.{heeds-first, heeds-done, heeds-bad}
-use Rattle.stores.proofs.Promises.{front-back, holding-is}
+use Rattle.stores.proofs.Promises.{closed-kept, opened-kept, decided-refused, decided-written, refusal-long, heeds-first, heeds-done, heeds-bad, front-back, holding-is}
 
 -- a plan in which one more waits has the same base, edges and times
 wait-base : (o : ℕ) (p : Plan) → wait o p .base ≡ p .base
@@ -82,7 +80,7 @@ module _ (o : ℕ) (s : Slices) {h : Header} (opens : h ≡ openOf (lentOf s) (s
       written : (p : Plan) → Held s p → Desked r′ (take edgesLength (s .edges)) (wait o p) → left ≡ holding (wait o p) s
       written p H D = holding-is (wait o p) s left
           (sym (front-back baseLength (s .base) _ (H .base ∙ ap baseWords (sym (wait-base o p)))))
-          (sym (front-back 512 (s .spans) _ (H .spans ∙ ap spanWords (sym (wait-base o p)))))
+          (sym (front-back spansLength (s .spans) _ (H .spans ∙ ap spanWords (sym (wait-base o p)))))
           (sym (front-back edgesLength (s .edges) _ (D .edges .words)))
           (ap (λ (l : List ℕ). l ++ drop routesLength (s .routes)) (D .routes .words))
           (sym (front-back timesLength (s .times) _ (H .times ∙ sym (wait-times o p))))

@@ -1,76 +1,71 @@
 -- The score that the words tell: of any words, and of a store that stands for a plan. Assumes nothing.
 use Prim.Native.Nat.{ℕ, _+_, _-_, _≤_, _<_, _^_}
 use native.Mathlib.Omega.{arith}
-use mathlib.Core.Path.{_≡_, refl, sym, ap, _∙_}
-use mathlib.Core.Bool.{Bool, true, false, cond}
+use mathlib.Core.Path.{_≡_, sym, ap, _∙_}
+use mathlib.Core.Bool.{Bool, cond, false, not, true}
 use mathlib.Core.List.{List, _∷_}
 use lib.ListN.{getD, take}
 use lib.Seq.{getD-take}
 use native.Mathlib.Nat.{add-zero}
-use lib.Dec.{eqb, ltb}
-use borrow.Author.Tests.{eq-eqb, ne-eqb, lt-ltb, le-ltb}
+use lib.Dec.{eqb}
+use borrow.Author.Tests.{lt-ltb, le-ltb}
 use Rattle.rules.specs.declared.Score.{Score}
 use Rattle.rules.specs.declared.Refusal.{Refusal}
 use Rattle.rules.specs.declared.Refusal.the-variants.{BadStore}
 use Rattle.rules.specs.Lists.{tick}
 use Rattle.rules.specs.Routes.{Plan}
-use Rattle.rules.specs.Scores.{scoreOf, limit, score, hardPenalty, invalidFixed, invalidEntries, violations, assignmentPenalty}
-use Rattle.rules.specs.Scores.{cyclePenalty, isCyclic, makespan}
+use Rattle.rules.specs.Scores.{scoreOf, limit, score, hardPenalty, invalidFixed, invalidEntries, violations, assignmentPenalty, cyclePenalty, isCyclic, makespan}
 use Rattle.rules.proofs.Bounds.{makespan-few}
 use Rattle.rules.proofs.Scoring.{within-score}
-use Rattle.rules.specs.Sizes.{mostJobs, timesLength}
+use Rattle.rules.specs.Sizes.{mostJobs, routesLength, timesLength}
 use Rattle.stores.specs.declared.score.Scored.{Scored}
 use Rattle.stores.specs.declared.score.Scored.the-variants.{Is, Refused}
-use Rattle.stores.specs.Sums.{Summed, Assigned, Penal, ScoredBy, penaltyAt, scoredAt, assignmentsAt}
-use Rattle.times.specs.Words.{timeWords}
+use Rattle.routes.specs.Handing.{Faults, Assigned}
+use Rattle.routes.specs.Desks.{routesOf}
+use Rattle.stores.specs.Sums.{Summed, Tallied, Penal, ScoredBy, total, penaltyIn, scoredIn, assignmentsIn}
+use Rattle.times.specs.Words.{cyclicIn, makespanIn, timeWords}
 use Rattle.stores.specs.Promise.{Slices, Held}
 use Rattle.stores.proofs.Openings.{base-headed}
 use Rattle.stores.proofs.Penalties.{counts-sum, assigned-sum}
 
+never : {r : Refusal} {c : Score} {A : Type 0} → Is c ≡ Refused r → A
+never e = absurd (let z : _≡_ {A = ℕ} 0 1 = cc in omega arith)
+
 -- ── of any words ──
 
-pub penal-of : {base routes : List ℕ} {n m a b : ℕ} → getD base 4 0 < 2 ^ 32 → Summed routes 1089 1217 a → Assigned routes m b
-    → m ≡ n → n ≤ mostJobs → Penal base routes n (getD base 4 0 + a + b)
-unfolding penaltyAt
-penal-of {base} {routes} {n} h s j q k = record {
-  is = let x = s .is in let y = j .is ∙ ap (assignmentsAt routes) q in omega arith;
-  few = let x = s .few in let y = j .few in omega arith;
+pub penal-of : {base routes f g : List ℕ} {n m′ a b : ℕ} → getD base 4 0 < 2 ^ 32 → Faults routes f → Summed f a → Assigned routes g
+    → Tallied g m′ b → m′ ≡ n → n ≤ mostJobs → Penal base routes n (getD base 4 0 + a + b)
+unfolding penaltyIn
+penal-of {base} {n = n} {m′} h F s A j q k = record {
+  is = λ m H.
+      let x = s .is ∙ ap total (F .is m H) in
+      let y = j .is ∙ ap (λ (l : List ℕ). assignmentsIn l m′) (A .is m H) ∙ ap (assignmentsIn (m .assigned)) q in
+      omega arith;
+  few = let x = s .few in let y = j .few in let z = F .long in omega arith;
 }
 
-module _ {base routes times : List ℕ} {n : ℕ} where
-  pub scored-odd : 1 < getD times 0 0 → ScoredBy base routes times n (Refused BadStore)
-  unfolding scoredAt
-  scored-odd h = record { is = rw (lt-ltb 1 _ h); within = tt }
+module _ {base routes times : List ℕ} {n span : ℕ} (es : span ≡ makespanIn times) where
+  pub scored-wide : limit < span → ScoredBy base routes times n (Refused BadStore)
+  unfolding scoredIn
+  scored-wide k = record { is = λ m H. rw (← es, lt-ltb limit _ k); twelve = λ k e. cc; within = tt }
 
-  pub scored-wide : getD times 0 0 ≤ 1 → limit < getD times 1 0 → ScoredBy base routes times n (Refused BadStore)
-  unfolding scoredAt
-  scored-wide h k = record { is = rw (le-ltb 1 _ h, lt-ltb limit _ k); within = tt }
-
-  module _ {x : ℕ} (p : Penal base routes n x) (few : n ≤ mostJobs) (odd : getD times 0 0 ≤ 1) (wide : getD times 1 0 ≤ limit) where
-    pub scored-cyclic : {s : Score} → getD times 0 0 ≡ 1 → s ≡ scoreOf (x + n) (getD times 1 0) → ScoredBy base routes times n (Is s)
-    unfolding scoredAt
+  module _ {x : ℕ} (p : Penal base (take routesLength routes) n x) (few : n ≤ mostJobs) (wide : span ≤ limit) {b : Bool}
+      (eb : b ≡ cyclicIn times) where
+    pub scored-cyclic : {s : Score} → b ≡ true → s ≡ scoreOf (x + n) span → ScoredBy base routes times n (Is s)
+    unfolding scoredIn
     scored-cyclic e q = record {
-      is = rw (le-ltb 1 _ odd, le-ltb limit _ wide, eq-eqb _ 1 e, ← p .is) (ap Is q);
+      is = λ m H. rw (← es, le-ltb limit _ wide, ← eb, e, ← p .is m H) (ap Is q);
+      twelve = λ k e. never e;
       within = rw q (within-score (x + n) _ (let z = p .few in omega arith) wide);
     }
 
-    pub scored-calm : {s : Score} → (getD times 0 0 ≡ 1 → ⊥) → s ≡ scoreOf x (getD times 1 0) → ScoredBy base routes times n (Is s)
-    unfolding scoredAt
+    pub scored-calm : {s : Score} → b ≡ false → s ≡ scoreOf x span → ScoredBy base routes times n (Is s)
+    unfolding scoredIn
     scored-calm e q = record {
-      is = rw (le-ltb 1 _ odd, le-ltb limit _ wide, ne-eqb _ 1 e, ← p .is, add-zero) (ap Is q);
+      is = λ m H. rw (← es, le-ltb limit _ wide, ← eb, e, ← p .is m H, add-zero) (ap Is q);
+      twelve = λ k e. never e;
       within = rw q (within-score x _ (let z = p .few in omega arith) wide);
     }
-
--- a score is refused under 12 alone
-pub scored-twelve : (base routes times : List ℕ) (n : ℕ) {a : Scored} {k : Refusal} → a ≡ scoredAt base routes times n → a ≡ Refused k
-    → k ≡ BadStore
-unfolding scoredAt
-scored-twelve base routes times n {a} {k} q e = go (ltb 1 (getD times 0 0)) (ltb limit (getD times 1 0)) _ (sym q ∙ e)
-  where
-    go : (x y : Bool) (c : Score) → cond x (Refused BadStore) (cond y (Refused BadStore) (Is c)) ≡ Refused k → k ≡ BadStore
-    go true y c f = cc
-    go false true c f = cc
-    go false false c f = absurd (let z : _≡_ {A = ℕ} 0 1 = cc in omega arith)
 
 -- ── of a store that stands for a plan ──
 
@@ -87,31 +82,26 @@ unfolding timeWords
 timed p l e = timed-by p l _ e
 
 module _ (s : Slices) (p : Plan) (H : Held s p) where
-  penalty-held : penaltyAt (s .base) (s .routes) (p .base .jobs)
+  penalty-held : penaltyIn (s .base) (routesOf p) (p .base .jobs)
       ≡ invalidFixed (p .base) + (invalidEntries p + violations p) + assignmentPenalty p
-  unfolding penaltyAt
-  penalty-held = rw (
-    base-headed (p .base) (s .base) (H .base) .invalid,
-    counts-sum p (s .routes) _ (H .desk),
-    assigned-sum p (s .routes) _ (H .desk),
-  )
+  unfolding penaltyIn
+  penalty-held = rw (base-headed (p .base) (s .base) (H .base) .invalid, counts-sum p (H .desk .sound), assigned-sum p (H .desk .sound))
 
-  cycles : (b : Bool) → ltb 1 (tick b 0) ≡ false
-  cycles true = refl
-  cycles false = refl
-
-  penalty-whole : penaltyAt (s .base) (s .routes) (p .base .jobs) + cond (eqb (tick (isCyclic p) 0) 1) (p .base .jobs) 0 ≡ hardPenalty p
+  penalty-whole : penaltyIn (s .base) (routesOf p) (p .base .jobs) + cond (not (eqb (tick (isCyclic p) 0) 0)) (p .base .jobs) 0 ≡ hardPenalty p
   unfolding hardPenalty cyclePenalty
   penalty-whole = go (isCyclic p)
     where
-      go : (b : Bool) → penaltyAt (s .base) (s .routes) (p .base .jobs) + cond (eqb (tick b 0) 1) (p .base .jobs) 0
+      go : (b : Bool) → penaltyIn (s .base) (routesOf p) (p .base .jobs) + cond (not (eqb (tick b 0) 0)) (p .base .jobs) 0
           ≡ invalidFixed (p .base) + (invalidEntries p + (violations p + (assignmentPenalty p + cond b (p .base .jobs) 0)))
       go true = let x = penalty-held in omega arith
       go false = let x = penalty-held in omega arith
 
-  pub scored-held : scoredAt (s .base) (s .routes) (s .times) (p .base .jobs) ≡ Is (score p)
-  unfolding scoredAt score
-  scored-held =
+  scored-plan : scoredIn (s .base) (routesOf p) (s .times) (p .base .jobs) ≡ Is (score p)
+  unfolding scoredIn score
+  scored-plan =
       let (a, b) = timed p (s .times) (H .times) in
       let c : makespan p ≤ limit = (let x = makespan-few p (H .desk .sound) in omega arith) in
-      rw (a, b, cycles (isCyclic p), le-ltb limit (makespan p) c, penalty-whole)
+      rw (a, b, le-ltb limit (makespan p) c, penalty-whole)
+
+  pub scored-held : {n : ℕ} {r : Scored} → ScoredBy (s .base) (s .routes) (s .times) n r → n ≡ p .base .jobs → r ≡ Is (score p)
+  scored-held S q = S .is (routesOf p) (H .desk .routes) ∙ ap (scoredIn (s .base) (routesOf p) (s .times)) q ∙ scored-plan

@@ -45,8 +45,8 @@ fn lay(a: &mut [u32], at: usize, s: &[u32], to: usize, x: u32)
     ensures { λ _. ⌜ now (a .exit) ≡ sets (now (a .entry)) at (now (s .entry) ++ replicate (to - (at + length (now (s .entry)))) x) ⌝ }
 {
     let k = s.len();
-    crate::u32s::copy(a, at, s, k);
-    crate::u32s::fill(a, at + k, to, x);
+    words::u32s::copy(a, at, s, k);
+    words::u32s::fill(a, at + k, to, x);
 }
 
 // The durations, then zeros.
@@ -55,8 +55,8 @@ pub fn write_spans(a: &mut [u64], s: &[u64])
     ensures { λ _. ⌜ now (a .exit) ≡ padded spansLength (now (s .entry)) ++ drop spansLength (now (a .entry)) ⌝ }
 {
     let k = s.len();
-    tables::u64s::copy(a, 0, s, k);
-    tables::u64s::fill(a, k, Plan::SPANS, 0);
+    words::u64s::copy(a, 0, s, k);
+    words::u64s::fill(a, k, Plan::SPANS, 0);
 }
 
 // 1 for a `to` that is no job.

@@ -19,7 +19,7 @@ pub fn broad(x: u32) -> usize
 }
 
 // Jobs, owners and fixed pairs of a loaded store.
-pub fn told(base: &[u32]) -> Header
+fn told(base: &[u32]) -> Header
     requires { ⌜ baseLength ≤ length (now base) ⌝ }
     ensures { λ r. ⌜ r ≡ headerOf (now (base .entry)) ⌝ }
 {

@@ -6,8 +6,7 @@
 //   times  u64   0 cyclic, 1 makespan; 2.. starts[512]
 pub mod base;
 pub mod header;
+pub mod reported;
 pub mod reset;
 pub mod retract;
 pub mod score;
-pub mod starts;
-pub mod u32s;

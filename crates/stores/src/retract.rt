@@ -2,7 +2,7 @@
 use crate::header::Header;
 use crate::header::opened;
 use crate::reset::Ended;
-use routes::rows::Done;
+use routes::wait::Done;
 use rules::Owner;
 use rules::Plan;
 use rules::Refusal;
@@ -30,7 +30,7 @@ pub fn retract(
             if !plan.has_owner(owner) {
                 return Ended::Refused(Refusal::NoSuchOwner);
             }
-            match routes::wait::retract(&mut routes[..Plan::ROUTES], owner.0 as u16) {
+            match routes::wait::retract(&mut routes[..Plan::ROUTES], owner) {
                 Done::Bad => Ended::Refused(Refusal::BadStore),
                 Done::Fine => Ended::Fine,
             }

@@ -2,18 +2,23 @@
 use crate::header::Header;
 use crate::header::broad;
 use crate::header::opened;
+use routes::rows::assigned;
+use routes::rows::faults;
 use rules::Plan;
 use rules::Refusal;
 use rules::Score;
+use times::is_cyclic;
+use times::makespan;
 ghost use mathlib.Core.Path.{_≡_};
 ghost use Prim.Native.Nat.{_+_, _≤_};
 ghost use lib.ListN.{length};
 ghost use Rattle.rules.specs.Scores.{assignment as assignmentOf};
 ghost use Rattle.rules.specs.Calls.{to-score};
-ghost use Rattle.rules.specs.Sizes.{mostJobs, routesLength};
+ghost use Rattle.rules.specs.Sizes.{mostJobs, routesLength, timesLength};
 ghost use Rattle.stores.specs.Promise.{Reads, slices};
 ghost use Rattle.stores.specs.Says.{saysCounted};
-ghost use Rattle.stores.specs.Sums.{Summed, Assigned, Penal, ScoredBy};
+ghost use Rattle.stores.specs.Words.{fromAt};
+ghost use Rattle.stores.specs.Sums.{Summed, Tallied, Penal, ScoredBy};
 
 pub enum Scored {
     Is(Score),
@@ -25,15 +30,18 @@ pub enum Counted {
     Refused(Refusal),
 }
 
-// The sum of the words from f up to t.
-fn sum_of(r: &[u16], f: usize, t: usize) -> u64
-    requires { ⌜ (f ≤ t) × (t ≤ length (now r)) × (t ≤ routesLength) ⌝ }
-    ensures { λ s. ⌜ Summed (now (r .entry)) f t s ⌝ }
+// A makespan of more no plan has.
+const LIMIT: u64 = 1125899906842624;
+
+// The sum of a row.
+fn sum_of(s: &[u16]) -> u64
+    requires { ⌜ length (now s) ≤ routesLength ⌝ }
+    ensures { λ r. ⌜ Summed (now (s .entry)) r ⌝ }
 {
     let mut sum: u64 = 0;
-    let mut i = f;
-    while i < t {
-        sum += r[i] as u64;
+    let mut i: usize = 0;
+    while i < s.len() {
+        sum += s[i] as u64;
         i += 1;
     }
     sum
@@ -49,14 +57,15 @@ fn assignment(c: u16) -> u64
     c as u64 - 1
 }
 
-fn assignments(r: &[u16], n: usize) -> u64
-    requires { ⌜ (routesLength ≤ length (now r)) × (n ≤ mostJobs) ⌝ }
-    ensures { λ s. ⌜ Assigned (now (r .entry)) n s ⌝ }
+// What the first n jobs are in force too often, or not at all; a says how often each is.
+fn assignments(a: &[u16], n: usize) -> u64
+    requires { ⌜ (n ≤ length (now a)) × (n ≤ mostJobs) ⌝ }
+    ensures { λ s. ⌜ Tallied (now (a .entry)) n s ⌝ }
 {
     let mut sum: u64 = 0;
     let mut i: usize = 0;
     while i < n {
-        sum += assignment(r[1217 + i]);
+        sum += assignment(a[i]);
         i += 1;
     }
     sum
@@ -64,33 +73,29 @@ fn assignments(r: &[u16], n: usize) -> u64
 
 // All but the cycle penalty.
 fn static_penalty(base: &[u32], routes: &[u16], plan: Plan) -> u64
-    requires { ⌜ (5 ≤ length (now base)) × (routesLength ≤ length (now routes)) × (plan .jobs ≤ mostJobs) ⌝ }
+    requires { ⌜ (fromAt ≤ length (now base)) × (length (now routes) ≡ routesLength) × (plan .jobs ≤ mostJobs) ⌝ }
     ensures { λ r. ⌜ Penal (now (base .entry)) (now (routes .entry)) (plan .jobs) r ⌝ }
 {
     let fixed = base[4] as u64;
-    let owners = sum_of(routes, 1089, 1217);
-    let jobs = assignments(routes, broad(plan.jobs));
+    let owners = sum_of(faults(routes));
+    let jobs = assignments(assigned(routes), broad(plan.jobs));
     fixed + owners + jobs
 }
 
 // The score of a loaded store.
 pub fn score_of(base: &[u32], routes: &[u16], times: &[u64], plan: Plan) -> Scored
-    requires { ⌜ (5 ≤ length (now base)) × (routesLength ≤ length (now routes)) × (2 ≤ length (now times)) × (plan .jobs ≤ mostJobs) ⌝ }
+    requires { ⌜ (fromAt ≤ length (now base)) × (routesLength ≤ length (now routes)) × (timesLength ≤ length (now times)) × (plan .jobs ≤ mostJobs) ⌝ }
     ensures { λ r. ⌜ ScoredBy (now (base .entry)) (now (routes .entry)) (now (times .entry)) (plan .jobs) r ⌝ }
 {
-    let penalty = static_penalty(base, routes, plan);
-    let cyclic = times[0];
-    let makespan = times[1];
-    if 1 < cyclic {
+    let penalty = static_penalty(base, &routes[..Plan::ROUTES], plan);
+    let span = makespan(times);
+    if LIMIT < span {
         return Scored::Refused(Refusal::BadStore);
     }
-    if 1125899906842624 < makespan {
-        return Scored::Refused(Refusal::BadStore);
+    if is_cyclic(times) {
+        return Scored::Is(Score::of(penalty + plan.jobs as u64, span));
     }
-    if cyclic == 1 {
-        return Scored::Is(Score::of(penalty + plan.jobs as u64, makespan));
-    }
-    Scored::Is(Score::of(penalty, makespan))
+    Scored::Is(Score::of(penalty, span))
 }
 
 // Score and match count.

@@ -5,10 +5,12 @@ use native.Mathlib.Omega.{arith}
 use mathlib.Core.Path.{_≡_, refl, sym, ap, _∙_}
 use mathlib.Core.Bool.{Bool, true, false}
 use mathlib.Core.List.{List, [], _∷_, _++_}
+use borrow.Author.Needs.{needs}
 use lib.Dec.{ltb}
 use lib.ListN.{length, length-append}
 use borrow.Author.Tests.{ltb-true, ltb-false, lt-ltb, le-ltb, le-leb}
 use Rattle.text.specs.Grammar.{digitsBelow, digitsOf}
+use Rattle.text.specs.Writes.{mostDigits}
 use Rattle.text.specs.Reads.{isDigit, Every}
 use Rattle.text.proofs.Runs.{head-is, every-append}
 
@@ -119,8 +121,31 @@ digits-few (suc k) x h = by-ten x
     (λ l. rw (digits-one x l) (omega arith))
     (λ l. let f = digits-few k (x / 10) (omega arith) in rw (digits-length x l) (omega arith))
 
-pub digits-twenty : (x : ℕ) → x < 2 ^ 64 → length (digitsOf x) ≤ 20
+pub digits-twenty : (x : ℕ) → x < 2 ^ 64 → length (digitsOf x) ≤ mostDigits
 digits-twenty x h = digits-few 19 x (omega arith)
+
+-- n digits are counted, and those of y but one are not
+pub record Widening (x n y : ℕ) : Type 0 where
+  pub few : length (digitsOf x) ≤ mostDigits
+  pub is : n + length (digitsOf y) ≡ 1 + length (digitsOf x)
+
+pub width-start : (x : ℕ) → x < 2 ^ 64 → Widening x 1 x
+width-start x h = record { few = digits-twenty x h; is = omega arith }
+
+module _ {x n y : ℕ} (W : Widening x n y) where
+  pub width-turn : 10 ≤ y → Widening x (n + 1) (y / 10)
+  width-turn h =
+      let l = digits-length y h in
+      let q = W .is in
+      record { few = W .few; is = omega arith }
+
+  pub width-is : y < 10 → n ≡ length (digitsOf x)
+  width-is h = let l = ap length (digits-one y h) in let q = W .is in omega arith
+
+  pub width-few : y < 10 → n ≤ mostDigits
+  width-few h = let e = width-is h in let f = W .few in omega arith
+
+pub ruleset widths = (needs, width-start, width-turn, width-is, width-few)
 
 -- ── no leading zero ──
 

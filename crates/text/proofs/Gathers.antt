@@ -1,14 +1,17 @@
 -- Fields one by one: what is read and what is left make the text, and no other numbers do. Assumes nothing.
-use Prim.Native.Nat.{ℕ, _+_, _*_, _^_, _≤_, _<_}
+use Prim.Native.Nat.{ℕ, _+_, _-_, _*_, _^_, _≤_, _<_}
 use native.Mathlib.Omega.{arith}
 use native.Mathlib.Numerals.{add-one}
 use mathlib.Core.Path.{_≡_, refl, sym, ap, _∙_}
 use mathlib.Core.List.{List, [], _∷_, _++_, append-nil, append-assoc}
+use borrow.Author.Needs.{needs}
 use lib.ListN.{length, getD, set, take, drop, length-append, length-drop, length-set, take-append-drop, drop-of-length-le}
 use lib.Seq.{drop-cons, drop-drop, drop-set-lt, length-take-le, take-suc-set}
-use Rattle.text.specs.Grammar.{digitsOf, fieldsOf, AllBelow}
 use Rattle.text.specs.declared.fields.Fields.the-variants.{Count, Bad}
-use Rattle.text.specs.Reads.{isDigit, Stops, Reading, Unreadable, Fieldless, Leads, none, more, Leaves, Gathers}
+use Rattle.text.specs.declared.fields.Field.{Field}
+use Rattle.text.specs.declared.fields.Field.the-variants.{Is as Number, Bad as Unread}
+use Rattle.text.specs.Grammar.{digitsOf, fieldsOf, AllBelow}
+use Rattle.text.specs.Reads.{isDigit, Stops, Reading, Reads, Unreadable, Fieldless, Fronts, none, more, Leaves, Gathers}
 use Rattle.text.proofs.Runs.{head-is, tail-is, none-some, cut-same}
 use Rattle.text.proofs.Decimals.{digits-every, digits-same, digits-some}
 
@@ -50,13 +53,13 @@ module _ (line : List ℕ) (i : ℕ) where
   fieldless-end h v rest b s e = none-some (sym (drop-of-length-le line h) ∙ e)
 
   module _ (h : i < length line) where
-    pub fieldless-other : (getD line i 0 ≡ 32 → ⊥) → Fieldless (drop i line)
+    fieldless-other : (getD line i 0 ≡ 32 → ⊥) → Fieldless (drop i line)
     fieldless-other n v rest b s e = n (head-is (sym (drop-cons line i 0 h) ∙ e))
 
     after-space : {l : List ℕ} → drop i line ≡ 32 ∷ l → drop (i + 1) line ≡ l
     after-space e = rw add-one (tail-is (sym (drop-cons line i 0 h) ∙ e))
 
-    pub fieldless-unread : Unreadable (drop (i + 1) line) → Fieldless (drop i line)
+    fieldless-unread : Unreadable (drop (i + 1) line) → Fieldless (drop i line)
     fieldless-unread u v rest b s e = u v rest b s (after-space e)
 
 -- ── what is left ──
@@ -86,7 +89,7 @@ pub record Gathering (line out out′ : List ℕ) (from i k : ℕ) : Type 0 wher
   pub below : AllBelow (take k out′)
   pub beyond : drop k out′ ≡ drop k out
   pub rest : Rest line from → Rest line i
-  pub leads : (ns : List ℕ) → Leads (drop i line) ns → Leads (drop from line) (take k out′ ++ ns)
+  pub leads : (ns : List ℕ) → Fronts (drop i line) ns → Fronts (drop from line) (take k out′ ++ ns)
 
 pub gather-start : (line out : List ℕ) (from : ℕ) → Gathering line out out from from 0
 gather-start line out from = record {
@@ -124,43 +127,63 @@ module _ {line out out′ : List ℕ} {from i k : ℕ} (G : Gathering line out o
     leaves = gather-leaves (fieldless-end line i h);
   }
 
-  module _ (h : i < length line) where
-    pub gather-bad : Fieldless (drop i line) → Gathers (drop from line) out out′ Bad
-    gather-bad f = record { counts = λ ns b e. rest-none line i h f (G .rest (ns, b, e)); leaves = gather-leaves f }
+module _ {line out out′ : List ℕ} {from i k : ℕ} (G : Gathering line out out′ from i k) (h : i < length line) where
+  bad : Fieldless (drop i line) → Gathers (drop from line) out out′ Bad
+  bad f = record { counts = λ ns b e. rest-none line i h f (G .rest (ns, b, e)); leaves = gather-leaves G f }
 
-    module _ {e v : ℕ} (R : Reading (drop (i + 1) line) line e v) where
-      pub gather-ahead : i + 2 ≤ e
-      gather-ahead =
-          let l = simp (length-append, length-drop) at (ap length (R .text)) in
-          let s = digits-some v in
-          let w = R .within in
-          omega arith
+  pub gather-other : (getD line i 0 ≡ 32 → ⊥) → Gathers (drop from line) out out′ Bad
+  gather-other n = bad (fieldless-other line i h n)
 
-      module _ (room : length line ≤ from + 2 * length out + 1) where
-        pub gather-room : k < length out′
-        gather-room =
-            let s = G .same in
-            let p = G .pace in
-            let w = R .within in
-            let a = gather-ahead in
-            omega arith
+module _ {line out out′ : List ℕ} {from i k : ℕ} {r : Field} (F : Reads (drop (i + 1) line) line (i + 1) r) (G : Gathering line out out′ from i k)
+    (h : i < length line) where
+  pub gather-unread : r ≡ Unread → Gathers (drop from line) out out′ Bad
+  gather-unread q = bad G h (fieldless-unread line i h (rw q at F))
 
-        pub gather-turn : getD line i 0 ≡ 32 → Gathering line out (set out′ k v) from e (k + 1)
-        gather-turn q =
-            let s = G .same in
-            let p = G .pace in
-            let a = gather-ahead in
-            let r = gather-room in
-            let t : take (k + 1) (set out′ k v) ≡ take k out′ ++ (v ∷ []) = rw add-one (take-suc-set out′ k v r) in
-            let f : drop i line ≡ 32 ∷ digitsOf v ++ drop e line = rw (drop-cons line i 0 h, q, ← add-one i, R .text) in
-            record {
-              same = length-set out′ k v ∙ s;
-              within = omega arith;
-              pace = omega arith;
-              text = G .text ∙ rw (f, t, fields-snoc, append-assoc);
-              below = rw t (below-snoc (take k out′) v (G .below) (R .below));
-              beyond = drop-set-lt (k + 1) out′ k v (omega arith)
-                  ∙ sym (drop-drop 1 k out′) ∙ ap (drop 1) (G .beyond) ∙ drop-drop 1 k out;
-              rest = λ l. rest-next line i h R (G .rest l);
-              leads = λ ns l. rw (t, append-assoc) (G .leads (v ∷ ns) (more (R .below) (R .stops) f l));
-            }
+  module _ {e v : ℕ} (q : r ≡ Number v e) where
+    R : Reading (drop (i + 1) line) line e v
+    R = (rw q at F) .1
+
+    ahead : i + 2 ≤ e
+    ahead =
+        let l = simp (length-append, length-drop) at (ap length (R .text)) in
+        let s = digits-some v in
+        let w = R .within in
+        omega arith
+
+    pub gather-less : length line - e < length line - i
+    gather-less = let a = ahead in omega arith
+
+    room-for : length line ≤ from + 2 * length out + 1 → k < length out′
+    room-for room =
+        let s = G .same in
+        let p = G .pace in
+        let w = R .within in
+        let a = ahead in
+        omega arith
+
+    pub gather-turn : length line ≤ from + 2 * length out + 1 → getD line i 0 ≡ 32 → Gathering line out (set out′ k v) from e (k + 1)
+    gather-turn room q =
+        let s = G .same in
+        let p = G .pace in
+        let a = ahead in
+        let m = room-for room in
+        let t : take (k + 1) (set out′ k v) ≡ take k out′ ++ (v ∷ []) = rw add-one (take-suc-set out′ k v m) in
+        let f : drop i line ≡ 32 ∷ digitsOf v ++ drop e line = rw (drop-cons line i 0 h, q, ← add-one i, R .text) in
+        record {
+          same = length-set out′ k v ∙ s;
+          within = omega arith;
+          pace = omega arith;
+          text = G .text ∙ rw (f, t, fields-snoc, append-assoc);
+          below = rw t (below-snoc (take k out′) v (G .below) (R .below));
+          beyond = drop-set-lt (k + 1) out′ k v (omega arith)
+              ∙ sym (drop-drop 1 k out′) ∙ ap (drop 1) (G .beyond) ∙ drop-drop 1 k out;
+          rest = λ l. rest-next line i h R (G .rest l);
+          leads = λ ns l. rw (t, append-assoc) (G .leads (v ∷ ns) (more (R .below) (R .stops) f l));
+        }
+
+-- there is a place for its number
+pub gather-room : {line out out′ : List ℕ} {from i k : ℕ} {r : Field} {v e : ℕ} → Gathering line out out′ from i k → r ≡ Number v e
+    → Reads (drop (i + 1) line) line (i + 1) r → i < length line → length line ≤ from + 2 * length out + 1 → k < length out′
+gather-room G q F h room = room-for F G h q room
+
+pub ruleset gathers = (needs, gather-start, gather-done, gather-other, gather-unread, gather-less, gather-turn)

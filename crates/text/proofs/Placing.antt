@@ -4,10 +4,11 @@ use native.Mathlib.Nat.{add-zero}
 use native.Mathlib.Omega.{arith}
 use mathlib.Core.Path.{_≡_, refl, sym, ap, _∙_}
 use mathlib.Core.List.{List, [], _∷_, _++_}
+use borrow.Author.Needs.{needs}
 use lib.ListN.{length, set, length-append, length-set}
 use lib.Seq.{sets, set-comm}
 use Rattle.text.specs.Grammar.{digitsOf}
-use Rattle.text.specs.Writes.{Wrote}
+use Rattle.text.specs.Writes.{Wrote, mostDigits}
 use Rattle.text.proofs.Decimals.{by-digits, digits-one, digits-more, digits-length}
 
 -- the last k digits of y
@@ -40,10 +41,11 @@ pub record Placing (out₀ : List ℕ) (at x : ℕ) (out : List ℕ) (i y : ℕ)
   pub high : i ≤ length out₀
   pub text : sets out at (lastOf (i - at) y) ≡ sets out₀ at (digitsOf x)
 
-pub place-start : (out : List ℕ) (at x i : ℕ) → i ≡ at + length (digitsOf x) → i ≤ length out → Placing out at x out i x
-place-start out at x i e h =
-    let p : i - at ≡ length (digitsOf x) = omega arith in
-    record { same = refl; low = omega arith; high = h; text = rw (p, digits-last x) }
+pub place-start : (out : List ℕ) (at x w : ℕ) → (w ≡ length (digitsOf x)) × (w ≤ mostDigits) → at + mostDigits ≤ length out
+    → Placing out at x out (at + w) x
+place-start out at x w (e, f) h =
+    let p : at + w - at ≡ length (digitsOf x) = omega arith in
+    record { same = refl; low = omega arith; high = omega arith; text = rw (p, digits-last x) }
 
 module _ {out₀ : List ℕ} {at x : ℕ} {out : List ℕ} {i y : ℕ} (P : Placing out₀ at x out i y) where
   pub place-turn : at < i → Placing out₀ at x (set out (i - 1) (48 + y % 10)) (i - 1) (y / 10)
@@ -61,8 +63,10 @@ module _ {out₀ : List ℕ} {at x : ℕ} {out : List ℕ} {i y : ℕ} (P : Plac
             ∙ P .text;
       }
 
-  pub place-done : i ≤ at → (r : ℕ) → r ≡ at + length (digitsOf x) → Wrote out₀ at (digitsOf x) r out
-  place-done h r e =
+  pub place-done : i ≤ at → (w : ℕ) → (w ≡ length (digitsOf x)) × (w ≤ mostDigits) → Wrote out₀ at (digitsOf x) (at + w) out
+  place-done h w (e, f) =
       let l = P .low in
       let p : i - at ≡ 0 = omega arith in
-      record { end = e; is = sym (ap (λ (k : ℕ). sets out at (lastOf k y)) p) ∙ P .text }
+      record { end = omega arith; is = sym (ap (λ (k : ℕ). sets out at (lastOf k y)) p) ∙ P .text }
+
+pub ruleset places = (needs, place-start, place-turn, place-done)

@@ -1,13 +1,13 @@
 -- Runs of bytes of one kind: where a run ends in two ways of cutting a text, the ways are one. Assumes nothing.
-use Prim.Native.Nat.{ℕ}
+use Prim.Native.Nat.{ℕ, zero, suc, _<_}
+use native.Mathlib.Nat.{not-suc-le-zero}
 use native.Mathlib.Omega.{arith}
 use mathlib.Core.Path.{_≡_, refl, sym, ap, _∙_}
-use mathlib.Core.Bool.{Bool, true, false}
+use mathlib.Core.Bool.{Bool, true}
 use mathlib.Core.List.{List, [], _∷_, _++_, append-nil}
+use lib.ListN.{length, getD}
+pub use Rattle.rules.proofs.Ranges.{clash as unlike}
 use Rattle.text.specs.Reads.{Every, Stops}
-
-pub unlike : {A : Type 0} {b : Bool} → b ≡ true → b ≡ false → A
-unlike {A} {b} e f = let z : true ≡ false = cc in let y : _≡_ {A = ℕ} 0 1 = cc in absurd (omega arith)
 
 pub head-is : {a b : ℕ} {l m : List ℕ} → a ∷ l ≡ b ∷ m → a ≡ b
 head-is e = cc
@@ -26,6 +26,11 @@ module _ (p : ℕ → Bool) where
   pub every-at : (a : List ℕ) (x : ℕ) (m : List ℕ) → Every p (a ++ (x ∷ m)) → p x ≡ true
   every-at [] x m (h, f) = h
   every-at (y ∷ a) x m (h, f) = every-at a x m f
+
+  pub every-getD : (l : List ℕ) (i : ℕ) → Every p l → i < length l → p (getD l i 0) ≡ true
+  every-getD [] i e h = absurd (not-suc-le-zero h)
+  every-getD (x ∷ l) zero (k, e) h = k
+  every-getD (x ∷ l) (suc i) (k, e) h = every-getD l i e (omega arith)
 
   stopped : (x : ℕ) (a s : List ℕ) {A : Type 0} → p x ≡ true → Stops p s → x ∷ a ≡ s → A
   stopped x a [] h k e = none-some (sym e)

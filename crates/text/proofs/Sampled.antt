@@ -2,7 +2,7 @@
 use mathlib.Core.Path.{_≡_, refl}
 use mathlib.Core.List.{[], _∷_}
 use lib.IntN.{negsuc}
-use Rattle.text.specs.declared.words.Word.the-variants.{Plan, Put, Go}
+use Rattle.text.specs.declared.vocabulary.Word.the-variants.{Plan, Put, Go}
 use Rattle.text.specs.Grammar.{digitsBelow, digitsOf, textOf}
 use Rattle.text.specs.Writes.{signedOf}
 

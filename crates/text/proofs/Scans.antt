@@ -1,16 +1,15 @@
 -- A digit, and a number digit by digit: the digits so far and what is left make the text. Assumes nothing.
-use Prim.Native.Nat.{ℕ, suc, _+_, _-_, _*_, _^_, _≤_, _<_}
+use Prim.Native.Nat.{ℕ, _+_, _-_, _*_, _/_, _^_, _≤_, _<_}
 use native.Mathlib.Omega.{arith}
 use native.Mathlib.Numerals.{add-one}
 use mathlib.Core.Path.{_≡_, refl, sym, ap, _∙_}
 use mathlib.Core.List.{List, [], _∷_, _++_, append-assoc}
 use lib.ListN.{length, getD, drop, drop-of-length-le}
 use lib.Seq.{drop-cons}
+use borrow.Author.Needs.{needs}
 use borrow.Author.Tests.{lt-leb, le-leb}
 use Rattle.text.specs.Grammar.{digitsOf}
-use Rattle.text.specs.Reads.{isDigit, Stops, Digits, Pushes, Unreadable, Reads}
-use Rattle.text.specs.declared.fields.Digit.the-variants.{Is as Stands, Not}
-use Rattle.text.specs.declared.fields.Pushed.the-variants.{Is as Longer, Wide}
+use Rattle.text.specs.Reads.{isDigit, Stops, Digit, Reads}
 use Rattle.text.specs.declared.fields.Field.{Field}
 use Rattle.text.specs.declared.fields.Field.the-variants.{Is as Number, Bad as Unread}
 use Rattle.text.proofs.Runs.{unlike, tail-is, begins-with, cut-same}
@@ -18,23 +17,32 @@ use Rattle.text.proofs.Decimals.{digits-one, digits-push, digit-is, dig
 
 -- ── a digit ──
 
+pub digit-low : {b : ℕ} → b < 48 → Digit b 10
+digit-low {b} h = record { is = λ k. absurd (omega arith); none = λ k. rw (lt-leb 48 b h) }
+
+pub digit-high : {b : ℕ} → 48 ≤ b → 57 < b → Digit b 10
+digit-high {b} h k = record { is = λ l. absurd (omega arith); none = λ l. rw (le-leb 48 b h, lt-leb b 57 k) }
+
+pub digit-of : {b : ℕ} → 48 ≤ b → b ≤ 57 → Digit b (b - 48)
+digit-of h k = record { is = λ l. omega arith; none = λ l. absurd (omega arith) }
+
+-- at a place of the line
 module _ (line : List ℕ) (i : ℕ) where
-  pub digit-none : length line ≤ i → Stops isDigit (drop i line)
-  digit-none h = rw (drop-of-length-le line h) tt
+  stops-end : length line ≤ i → Stops isDigit (drop i line)
+  stops-end h = rw (drop-of-length-le line h) tt
 
-  module _ (h : i < length line) where
-    pub digit-low : getD line i 0 < 48 → Stops isDigit (drop i line)
-    digit-low k = rw (drop-cons line i 0 h, lt-leb 48 (getD line i 0) k) refl
+  module _ {d : ℕ} (D : Digit (getD line i 0) d) (h : i < length line) where
+    stops-at : 10 ≤ d → Stops isDigit (drop i line)
+    stops-at n = rw (drop-cons line i 0 h) (D .none n)
 
-    pub digit-high : 48 ≤ getD line i 0 → 57 < getD line i 0 → Stops isDigit (drop i line)
-    digit-high j k = rw (drop-cons line i 0 h, le-leb 48 (getD line i 0) j, lt-leb (getD line i 0) 57 k) refl
-
-    pub digit-stands : 48 ≤ getD line i 0 → getD line i 0 ≤ 57 → Digits line i (Stands (getD line i 0 - 48))
-    digit-stands j k =
-        let p : 48 + (getD line i 0 - 48) ≡ getD line i 0 = omega arith in
-        (h, omega arith, drop-cons line i 0 h ∙ ap (λ (b : ℕ). b ∷ drop (suc i) line) (sym p))
+    stands : d < 10 → drop i line ≡ (48 + d) ∷ drop (i + 1) line
+    stands n = rw (drop-cons line i 0 h, D .is n, add-one)
 
 -- ── one more digit ──
+
+-- no number is larger
+abbrev largest : ℕ
+largest = 18446744073709551615
 
 -- the digits of x stand in front of what is left of the text t from place i on
 pub record Scanning (t line : List ℕ) (from i x : ℕ) : Type 0 where
@@ -44,61 +52,85 @@ pub record Scanning (t line : List ℕ) (from i x : ℕ) : Type 0 where
   pub below : x < 2 ^ 64
   pub text : t ≡ digitsOf x ++ drop i line
 
+pub scan-start : {line : List ℕ} {from x : ℕ} → (0 < x) × (from ≤ length line) → x < 2 ^ 64
+    → Scanning (digitsOf x ++ drop from line) line from from x
+scan-start (s, w) b = record { ahead = omega arith; within = w; some = s; below = b; text = refl }
+
 module _ {t line : List ℕ} {from i x : ℕ} (S : Scanning t line from i x) where
-  pub scan-done : Digits line i Not → Reads t line from (Number x i)
-  scan-done s = (S .ahead, record { below = S .below; within = S .within; text = S .text; stops = s })
+  scanned : Stops isDigit (drop i line) → Reads t line from (Number x i)
+  scanned s = (S .ahead, record { below = S .below; within = S .within; text = S .text; stops = s })
 
-  module _ (d : ℕ) (D : Digits line i (Stands d)) where
+  pub scan-ends : length line ≤ i → Reads t line from (Number x i)
+  scan-ends h = scanned (stops-end line i h)
+
+module _ {t line : List ℕ} {from i x d : ℕ} (D : Digit (getD line i 0) d) (S : Scanning t line from i x) (h : i < length line) where
+  pub scan-done : 10 ≤ d → Reads t line from (Number x i)
+  scan-done n = scanned S (stops-at line i D h n)
+
+  module _ (n : d < 10) where
     pushed : t ≡ digitsOf (10 * x + d) ++ drop (i + 1) line
-    pushed = S .text ∙ rw (D .2, digits-push x d (S .some) (D .1), append-assoc, add-one)
+    pushed = S .text ∙ rw (stands line i D h n, digits-push x d (S .some) n, append-assoc)
 
-    pub scan-turn : (y : ℕ) → Pushes x d (Longer y) → Scanning t line from (i + 1) y
-    scan-turn y (e, h) =
+    pub scan-turn : x ≤ (largest - d) / 10 → Scanning t line from (i + 1) (10 * x + d)
+    scan-turn w =
         let a = S .ahead in
         let p = S .some in
-        let w = D .0 in
-        record { ahead = omega arith; within = omega arith; some = omega arith; below = h; text = rw e pushed }
+        record { ahead = omega arith; within = omega arith; some = omega arith; below = omega arith; text = pushed }
 
-    pub scan-wide : Pushes x d Wide → Unreadable t
+    pub scan-wide : largest < 10 * x + d → Reads t line from Unread
     scan-wide w v rest k s f =
         let (m, g, j) = begins-with isDigit (digitsOf (10 * x + d)) (digitsOf v) (digits-every (10 * x + d)) s (sym pushed ∙ f) in
         let z = digits-grow (10 * x + d) v m g in
         omega arith
 
+pub ruleset scans = (needs, digit-low, digit-high, digit-of, scan-start, scan-ends, scan-done, scan-turn)
+
 -- ── the first digit ──
 
 module _ (line : List ℕ) (from : ℕ) where
-  pub number-none : Stops isDigit (drop from line) → Unreadable (drop from line)
-  number-none s v rest k j e =
+  none-reads : Stops isDigit (drop from line) → Reads (drop from line) line from Unread
+  none-reads s v rest k j e =
       let (f, g) = cut-same isDigit [] (digitsOf v) tt (digits-every v) s j e in
       let l = digits-some v in
       let z : length (digitsOf v) ≡ 0 = ap length (sym f) in
       omega arith
 
-  first-is : (d : ℕ) → Digits line from (Stands d) → drop from line ≡ digitsOf d ++ drop (from + 1) line
-  first-is d D = D .2 ∙ rw (digits-one d (D .1), add-one)
+  pub number-ends : length line ≤ from → Reads (drop from line) line from Unread
+  number-ends h = none-reads (stops-end line from h)
 
-  pub number-rest : (d : ℕ) → Digits line from (Stands d) → (r : Field) → Reads (digitsOf d ++ drop (from + 1) line) line (from + 1) r
-      → Reads (drop from line) line from r
-  number-rest d D (Number v e) (k, R) = (omega arith, rw (first-is d D) R)
-  number-rest d D Unread R = rw (first-is d D) R
+  module _ {d : ℕ} (D : Digit (getD line from 0) d) (h : from < length line) where
+    pub number-none : 10 ≤ d → Reads (drop from line) line from Unread
+    number-none n = none-reads (stops-at line from D h n)
 
-  -- a zero stands alone
-  module _ (d : ℕ) (z : d ≡ 0) (D : Digits line from (Stands d)) where
-    zero-is : Digits line from (Stands 0)
-    zero-is = rw z at D
+    first-is : d < 10 → drop from line ≡ digitsOf d ++ drop (from + 1) line
+    first-is n = stands line from D h n ∙ rw (digits-one d n)
 
-    pub number-zero : Digits line (from + 1) Not → Reads (drop from line) line from (Number 0 (from + 1))
-    number-zero s =
-        let w = D .0 in
-        (omega arith, record { below = omega arith; within = omega arith; text = first-is 0 zero-is; stops = s })
+    pub number-rest : d < 10 → (r : Field) → Reads (digitsOf d ++ drop (from + 1) line) line (from + 1) r → Reads (drop from line) line from r
+    number-rest n (Number v e) (k, R) = (omega arith, rw (first-is n) R)
+    number-rest n Unread R = rw (first-is n) R
 
-    pub number-zeros : (c : ℕ) → Digits line (from + 1) (Stands c) → Unreadable (drop from line)
-    number-zeros c C v rest k s e =
-        let q = zero-is .2 in
-        let (m, g, j) = begins-with isDigit (48 ∷ []) (digitsOf v) (refl, tt) s (sym q ∙ e) in
-        let o : digitsOf v ≡ 48 ∷ [] = rw (no-zero-first v m g) (digits-one 0 (omega arith)) in
-        let x : 48 ∷ drop (suc from) line ≡ 48 ∷ rest = sym q ∙ e ∙ ap (λ (l : List ℕ). l ++ rest) o in
-        let y : drop (suc from) line ≡ rest = tail-is x in
-        let u : rest ≡ (48 + c) ∷ drop (suc (from + 1)) line = sym y ∙ ap (λ (n : ℕ). drop n line) (sym (add-one from)) ∙ C .2 in
-        unlike (digit-is c (C .1)) (rw u at s)
+    -- a zero stands alone
+    module _ (z : d ≤ 0) where
+      zero-is : drop from line ≡ 48 ∷ drop (from + 1) line
+      zero-is = let q : d ≡ 0 = omega arith in stands line from D h (omega arith) ∙ rw q
+
+      alone : Stops isDigit (drop (from + 1) line) → Reads (drop from line) line from (Number 0 (from + 1))
+      alone s =
+          (omega arith, record { below = omega arith; within = omega arith; text = zero-is ∙ rw (digits-one 0 (omega arith)); stops = s })
+
+      pub number-zero-ends : length line ≤ from + 1 → Reads (drop from line) line from (Number 0 (from + 1))
+      number-zero-ends k = alone (stops-end line (from + 1) k)
+
+      module _ {c : ℕ} (C : Digit (getD line (from + 1) 0) c) (k : from + 1 < length line) where
+        pub number-zero : 10 ≤ c → Reads (drop from line) line from (Number 0 (from + 1))
+        number-zero n = alone (stops-at line (from + 1) C k n)
+
+        pub number-zeros : c < 10 → Reads (drop from line) line from Unread
+        number-zeros n v rest b s e =
+            let (m, g, j) = begins-with isDigit (48 ∷ []) (digitsOf v) (refl, tt) s (sym zero-is ∙ e) in
+            let o : digitsOf v ≡ 48 ∷ [] = rw (no-zero-first v m g) (digits-one 0 (omega arith)) in
+            let x : 48 ∷ drop (from + 1) line ≡ 48 ∷ rest = sym zero-is ∙ e ∙ ap (λ (l : List ℕ). l ++ rest) o in
+            let u : rest ≡ (48 + c) ∷ drop (from + 1 + 1) line = sym (tail-is x) ∙ stands line (from + 1) C k n in
+            unlike (digit-is c n) (rw u at s)
+
+pub ruleset numbered = (needs, number-ends, number-none, number-rest, number-zero-ends, number-zero, number-zeros)

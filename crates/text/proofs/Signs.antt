@@ -1,5 +1,5 @@
 -- The size of a signed number, and its sign before its digits. Assumes nothing.
-use Prim.Native.Nat.{ℕ, suc, _+_, _-_}
+use Prim.Native.Nat.{ℕ, suc, _+_, _-_, _≤_}
 use native.Mathlib.Omega.{arith}
 use native.Mathlib.Numerals.{add-one}
 use mathlib.Core.Path.{_≡_, refl, ap, _∙_}
@@ -10,12 +10,13 @@ use lib.IntN.{ℤ, pos, negsuc, natAbs, _-ℤ_}
 use lib.ListN.{length, set, length-set}
 use lib.Seq.{length-sets}
 use lib.Signed.{mag, ltZ, nonNeg}
+use borrow.Author.Needs.{needs}
 use borrow.Author.Tests.{le-ltb}
 use mir.Syntax.{w64}
 use mir.Val.{Fits, SFits, toZ, ofZ}
 use mir.Facts.{toZ-ofZ}
 use Rattle.text.specs.Grammar.{digitsOf}
-use Rattle.text.specs.Writes.{signedOf, Wrote}
+use Rattle.text.specs.Writes.{signedOf, Wrote, mostDigits, mostField}
 use Rattle.text.proofs.Runs.{unlike}
 
 -- -1 less a number below 0, and what that is one short of
@@ -49,9 +50,11 @@ module _ {x : ℤ} (f : SFits w64 x) where
     read : toZ w64 (ofZ w64 (negsuc 0 -ℤ toZ w64 (ofZ w64 x))) ≡ pos (mag x)
     read = toZ-ofZ size-sub ∙ flipped
 
-    pub size-cast : T (nonNeg (toZ w64 (ofZ w64 (negsuc 0 -ℤ toZ w64 (ofZ w64 x)))))
-        × Fits w64 (natAbs (toZ w64 (ofZ w64 (negsuc 0 -ℤ toZ w64 (ofZ w64 x)))))
-    size-cast = let h = f .sfits in rw read (tt, record { fits = omega arith })
+    pub size-sign : T (nonNeg (toZ w64 (ofZ w64 (negsuc 0 -ℤ toZ w64 (ofZ w64 x)))))
+    size-sign = rw read tt
+
+    pub size-fits : Fits w64 (natAbs (toZ w64 (ofZ w64 (negsuc 0 -ℤ toZ w64 (ofZ w64 x)))))
+    size-fits = let h = f .sfits in rw read (record { fits = omega arith })
 
     pub size-add : Fits w64 (natAbs (toZ w64 (ofZ w64 (negsuc 0 -ℤ toZ w64 (ofZ w64 x)))) + 1)
     size-add = let h = f .sfits in rw read (record { fits = omega arith })
@@ -86,6 +89,12 @@ module _ {x : ℤ} (f : SFits w64 x) where
         let (p, q) = above x not-below in
         rw (toZ-ofZ f) (p, record { fits = omega arith })
 
+    pub whole-sign : T (nonNeg (toZ w64 (ofZ w64 x)))
+    whole-sign = whole-cast .0
+
+    pub whole-fits : Fits w64 (natAbs (toZ w64 (ofZ w64 x)))
+    whole-fits = whole-cast .1
+
     pub whole-wrote : {n r at : ℕ} {out out′ : List ℕ} → n ≡ natAbs (toZ w64 (ofZ w64 x)) → Wrote out at (digitsOf n) r out′
         → Wrote out at (signedOf x) r out′
     whole-wrote {n} e W = rw (go x not-below, ← rw (toZ-ofZ f) at e) W
@@ -93,3 +102,9 @@ module _ {x : ℤ} (f : SFits w64 x) where
         go : (x : ℤ) → ltZ x (pos 0) ≡ false → signedOf x ≡ digitsOf (natAbs x)
         go (pos n) t = refl
         go (negsuc n) t = unlike refl t
+
+-- a byte written in front leaves room for the digits
+pub set-room : (out : List ℕ) (at b : ℕ) → at + mostField ≤ length out → at + 1 + mostDigits ≤ length (set out at b)
+set-room out at b h = rw (length-set out at b) (omega arith)
+
+pub ruleset signs = (needs, size-sub, size-sign, size-fits, size-add, size-is, whole-sign, whole-fits, minus-wrote, minus-length, whole-wrote, set-room)

@@ -1,57 +1,69 @@
 -- Two replies that keep a promise are one. Assumes nothing.
-use Prim.Native.Nat.{ℕ, suc, _-_, _≤_}
+use Prim.Native.Nat.{ℕ, suc, _+_, _-_, _≤_, _<_}
 use native.Mathlib.Nat.{suc-inj}
 use native.Mathlib.Omega.{arith}
 use mathlib.Core.Path.{_≡_, refl, sym, ap, _∙_}
 use mathlib.Core.Bool.{true}
-use mathlib.Core.Logic.{inl, inr}
+use mathlib.Core.Logic.{_⊎_, inl, inr}
 use mathlib.Core.List.{List, _∷_, _++_}
-use lib.ListN.{length, take, drop, length-drop}
-use lib.Seq.{length-take-le}
+use lib.ListN.{length, take, drop, length-take, length-drop}
+use lib.Seq.{length-take-le, getD-take, getD-drop}
+use Rattle.rules.proofs.Ranges.{lt-or-le}
 use Rattle.text.specs.declared.ends.End.{End}
 use Rattle.text.specs.declared.ends.End.the-variants.{At, Nothing}
-use Rattle.text.specs.declared.words.Word.{Word}
-use Rattle.text.specs.declared.words.First.{First}
-use Rattle.text.specs.declared.words.First.the-variants.{Is as Begins, Bad as Unknown}
+use Rattle.text.specs.declared.vocabulary.Word.{Word}
 use Rattle.text.specs.declared.fields.Field.{Field}
 use Rattle.text.specs.declared.fields.Field.the-variants.{Is as Number, Bad as Unread}
-use Rattle.text.specs.declared.fields.Fields.{Fields}
-use Rattle.text.specs.declared.fields.Fields.the-variants.{Count, Bad as Uncounted}
 use Rattle.text.specs.declared.parses.Line.{Line}
 use Rattle.text.specs.declared.parses.Line.the-variants.{Is as Says, Bad as Unfit}
 use Rattle.text.specs.Grammar.{fitsOf}
-use Rattle.text.specs.Reads.{notEnd, Every, Ended, Ends, Words, Reads, Counts, Leads, none, more, Leaves, Gathers, Parsed, Means, Left, Parses}
-use Rattle.text.proofs.Runs.{unlike, tail-is, every-at, cut-same}
-use Rattle.text.proofs.Gathers.{field-same, fields-same}
+use Rattle.text.specs.Reads.{other, Every, Searched, Ended, Ends, Reads, Fronts, none, more, Leaves, Parsed, Means, Left, Parses}
+use Rattle.text.specs.Writes.{Wrote, Fills}
+use Rattle.text.proofs.Runs.{unlike, every-getD, tail-is, every-at, cut-same}
+use Rattle.text.proofs.LineEnds.{other-self}
+use Rattle.text.proofs.Gathers.{field-same}
 use Rattle.text.proofs.Namings.{named-same, text-same}
 
 -- equal ends of a list begin at one place
 place-same : (l : List ℕ) (a b : ℕ) → a ≤ length l → b ≤ length l → drop a l ≡ drop b l → a ≡ b
 place-same l a b h k e = let q = simp length-drop at (ap length e) in omega arith
 
--- ── a line's end ──
+-- ── where a byte stands first ──
 
-module _ (input : List ℕ) (from : ℕ) where
-  never-ended : {e : ℕ} {A : Type 0} → Ended input from e → Every notEnd (drop from input) → A
-  never-ended {e} E k = unlike (every-at notEnd (take (e - from) (drop from input)) 10 (drop (suc e) input) (rw (E .text) at k)) refl
+module _ (byte : ℕ) (input : List ℕ) (from : ℕ) where
+  never-ended : {e : ℕ} {A : Type 0} → Ended byte input from e → Every (other byte) (drop from input) → A
+  never-ended {e} E k =
+      unlike (every-at (other byte) (take (e - from) (drop from input)) byte (drop (suc e) input) (rw (E .text) at k)) (other-self byte)
 
-  pub ends-same : (r s : End) → Ends input from r → Ends input from s → r ≡ s
+  not-before : {e d : ℕ} → Searched byte input from e → Searched byte input from d → e < d → ⊥
+  not-before {e} {d} E D h =
+      let a = E .ahead in
+      let w = D .within in
+      let q : from + (e - from) ≡ e = omega arith in
+      let l : e - from < length (take (d - from) (drop from input)) = rw (length-take, length-drop) (omega arith) in
+      let x = every-getD (other byte) (take (d - from) (drop from input)) (e - from) (D .passed) l in
+      let k : e - from < d - from = omega arith in
+      unlike (rw (getD-take (d - from) (drop from input) (e - from) 0 k, getD-drop from input (e - from) 0, q, E .stands (omega arith)) at x)
+      (other-self byte)
+
+  pub searched-same : {e d : ℕ} → Searched byte input from e → Searched byte input from d → e ≡ d
+  searched-same {e} {d} E D = by (lt-or-le e d) (lt-or-le d e)
+    where
+      by : (e < d) ⊎ (d ≤ e) → (d < e) ⊎ (e ≤ d) → e ≡ d
+      by (inl h) k = absurd (not-before E D h)
+      by (inr h) (inl k) = absurd (not-before D E k)
+      by (inr h) (inr k) = omega arith
+
+  pub ends-same : (r s : End) → Ends byte input from r → Ends byte input from s → r ≡ s
   ends-same (At e) (At d) E D =
-      let (f, g) = cut-same notEnd (take (e - from) (drop from input)) (take (d - from) (drop from input))
-      {r = 10 ∷ drop (suc e) input} {s = 10 ∷ drop (suc d) input} (E .line) (D .line) refl refl (sym (E .text) ∙ D .text) in
+      let (f, g) = cut-same (other byte) (take (e - from) (drop from input)) (take (d - from) (drop from input))
+      {r = byte ∷ drop (suc e) input} {s = byte ∷ drop (suc d) input} (E .line) (D .line) (other-self byte) (other-self byte)
+      (sym (E .text) ∙ D .text) in
       let q = place-same input (suc e) (suc d) (E .within) (D .within) (tail-is g) in
       ap At (suc-inj q)
   ends-same (At e) Nothing E k = never-ended E k
   ends-same Nothing (At d) k D = never-ended D k
   ends-same Nothing Nothing k j = refl
-
--- ── a word ──
-
-pub words-same : (line : List ℕ) (r s : First) → Words line r → Words line s → r ≡ s
-words-same line (Begins w k) (Begins v n) (e, N) (f, M) = let q = named-same line w v N M in cc
-words-same line (Begins w k) Unknown (e, N) u = absurd (u w N)
-words-same line Unknown (Begins v n) u (f, M) = absurd (u v M)
-words-same line Unknown Unknown u y = refl
 
 -- ── a number ──
 
@@ -66,7 +78,7 @@ reads-same t line from Unread Unread u v = refl
 
 -- ── what is written ──
 
-leads-same : {t ns ms : List ℕ} → Leads t ns → Leads t ms → ns ≡ ms
+leads-same : {t ns ms : List ℕ} → Fronts t ns → Fronts t ms → ns ≡ ms
 leads-same (none f) (none g) = refl
 leads-same (none f) (more {rest = l} {v = y} b s e L) = absurd (f y l b s e)
 leads-same (more {rest = l} {v = x} b s e L) (none f) = absurd (f x l b s e)
@@ -80,20 +92,6 @@ leaves-same {t} {out} L M = L .is ∙ ap (λ (l : List ℕ). l ++ drop (length l
 
 front-length : (out o : List ℕ) (k : ℕ) → length o ≡ length out → k ≤ length out → length (take k o) ≡ k
 front-length out o k e h = length-take-le k o (omega arith)
-
--- ── numbers ──
-
-module _ (t out o₁ o₂ : List ℕ) where
-  counts-same : (r s : Fields) → Counts t out o₁ r → Counts t out o₂ s → r ≡ s
-  counts-same (Count k) (Count n) C D =
-      let e = fields-same (take k o₁) (take n o₂) (sym (C .text) ∙ D .text) in
-      ap Count (sym (front-length out o₁ k (C .same) (C .within)) ∙ ap length e ∙ front-length out o₂ n (D .same) (D .within))
-  counts-same (Count k) Uncounted C u = absurd (u (take k o₁) (C .below) (C .text))
-  counts-same Uncounted (Count n) u D = absurd (u (take n o₂) (D .below) (D .text))
-  counts-same Uncounted Uncounted u v = refl
-
-  pub gathers-same : (r s : Fields) → Gathers t out o₁ r → Gathers t out o₂ s → (r ≡ s) × (o₁ ≡ o₂)
-  gathers-same r s G H = (counts-same r s (G .counts) (H .counts), leaves-same (G .leaves) (H .leaves))
 
 -- ── a line ──
 
@@ -122,3 +120,12 @@ module _ (line out o₁ o₂ : List ℕ) where
 
   pub parses-same : (r s : Line) → Parses line out o₁ r → Parses line out o₂ s → (r ≡ s) × (o₁ ≡ o₂)
   parses-same r s P Q = (means-same r s (P .means) (Q .means), left-same (P .left) (Q .left))
+
+-- ── what is written at a place ──
+
+module _ {out : List ℕ} {at : ℕ} {bytes : List ℕ} {r s : ℕ} {o₁ o₂ : List ℕ} where
+  pub wrote-same : Wrote out at bytes r o₁ → Wrote out at bytes s o₂ → (r ≡ s) × (o₁ ≡ o₂)
+  wrote-same A B = (A .end ∙ sym (B .end), A .is ∙ sym (B .is))
+
+  pub fills-same : {m n : ℕ} → Fills out at bytes m r o₁ → Fills out at bytes n s o₂ → (r ≡ s) × (o₁ ≡ o₂)
+  fills-same A B = wrote-same (A .wrote) (B .wrote)

@@ -1,38 +1,38 @@
 -- What the functions that read promise. Assumes nothing.
-use Prim.Native.Nat.{ℕ, suc, _+_, _-_, _*_, _^_, _≤_, _<_}
+use Prim.Native.Nat.{ℕ, suc, _+_, _-_, _^_, _≤_, _<_, max}
 use mathlib.Core.Path.{_≡_}
 use mathlib.Core.Bool.{Bool, true, false, not, _&&_}
 use mathlib.Core.Logic.{_⊎_}
 use mathlib.Core.List.{List, [], _∷_, _++_}
 use lib.Dec.{eqb, leb}
-use lib.ListN.{length, take, drop}
+use lib.ListN.{length, getD, take, drop}
 use Rattle.text.specs.declared.ends.End.{End}
 use Rattle.text.specs.declared.ends.End.the-variants.{At, Nothing}
-use Rattle.text.specs.declared.words.Word.{Word}
-use Rattle.text.specs.declared.words.First.{First}
-use Rattle.text.specs.declared.words.First.the-variants.{Is as Begins, Bad as Unknown}
-use Rattle.text.specs.declared.fields.Digit.{Digit}
-use Rattle.text.specs.declared.fields.Digit.the-variants.{Is as Stands, Not}
-use Rattle.text.specs.declared.fields.Pushed.{Pushed}
-use Rattle.text.specs.declared.fields.Pushed.the-variants.{Is as Longer, Wide}
+use Rattle.text.specs.declared.vocabulary.Word.{Word}
+use Rattle.text.specs.declared.vocabulary.Word.the-variants.{Plan}
+use Rattle.text.specs.declared.vocabulary.First.{First}
+use Rattle.text.specs.declared.vocabulary.First.the-variants.{Is as Begins, Bad as Unknown}
 use Rattle.text.specs.declared.fields.Field.{Field}
 use Rattle.text.specs.declared.fields.Field.the-variants.{Is as Number, Bad as Unread}
 use Rattle.text.specs.declared.fields.Fields.{Fields}
 use Rattle.text.specs.declared.fields.Fields.the-variants.{Count, Bad as Uncounted}
 use Rattle.text.specs.declared.parses.Line.{Line}
 use Rattle.text.specs.declared.parses.Line.the-variants.{Is as Says, Bad as Unfit}
-use Rattle.text.specs.Grammar.{nameOf, fitsOf, digitsOf, fieldsOf, AllBelow, textOf}
+use Rattle.text.specs.Grammar.{allWords, nameOf, fitsOf, digitsOf, fieldsOf, AllBelow, textOf}
 
 -- ── kinds of bytes ──
 
 abbrev pub isDigit : ℕ → Bool
 isDigit b = leb 48 b && leb b 57
 
+abbrev pub other : ℕ → ℕ → Bool
+other x b = not (eqb b x)
+
 abbrev pub notSpace : ℕ → Bool
-notSpace b = not (eqb b 32)
+notSpace = other 32
 
 abbrev pub notEnd : ℕ → Bool
-notEnd b = not (eqb b 10)
+notEnd = other 10
 
 -- all bytes are of one kind
 abbrev pub Every : (ℕ → Bool) → List ℕ → Type 0
@@ -44,18 +44,25 @@ abbrev pub Stops : (ℕ → Bool) → List ℕ → Type 0
 Stops p [] = Unit
 Stops p (b ∷ l) = p b ≡ false
 
--- ── a line's end ──
+-- ── where a byte stands first: LF at a line's end, a space at a name's ──
 
--- what is left of the input from a place on is a line, LF and the rest
-pub record Ended (input : List ℕ) (from e : ℕ) : Type 0 where
+-- from a place up to e it stands nowhere, and at e it does, unless the input ends there or before the place
+pub record Searched (byte : ℕ) (input : List ℕ) (from e : ℕ) : Type 0 where
+  pub ahead : from ≤ e
+  pub within : e ≤ max from (length input)
+  pub passed : Every (other byte) (take (e - from) (drop from input))
+  pub stands : e < length input → getD input e 0 ≡ byte
+
+-- what is left of the input from a place on is a run without the byte, the byte and the rest
+pub record Ended (byte : ℕ) (input : List ℕ) (from e : ℕ) : Type 0 where
   pub ahead : from ≤ e
   pub within : e < length input
-  pub line : Every notEnd (take (e - from) (drop from input))
-  pub text : drop from input ≡ take (e - from) (drop from input) ++ 10 ∷ drop (suc e) input
+  pub line : Every (other byte) (take (e - from) (drop from input))
+  pub text : drop from input ≡ take (e - from) (drop from input) ++ byte ∷ drop (suc e) input
 
-abbrev pub Ends : List ℕ → ℕ → End → Type 0
-Ends input from (At e) = Ended input from e
-Ends input from Nothing = Every notEnd (drop from input)
+abbrev pub Ends : ℕ → List ℕ → ℕ → End → Type 0
+Ends byte input from (At e) = Ended byte input from e
+Ends byte input from Nothing = Every (other byte) (drop from input)
 
 -- ── a word ──
 
@@ -72,22 +79,22 @@ Names line name false = Named line name → ⊥
 abbrev pub Wordless : List ℕ → Type 0
 Wordless line = (w : Word) → Named line (nameOf w) → ⊥
 
--- the word that the line begins with, and its length
+-- the line begins with the word of a row, whose name is k bytes long
+pub record Begun (line : List ℕ) (row k : ℕ) : Type 0 where
+  pub inside : row < length allWords
+  pub long : k ≡ length (nameOf (getD allWords row Plan))
+  pub named : Named line (nameOf (getD allWords row Plan))
+
 abbrev pub Words : List ℕ → First → Type 0
-Words line (Begins w k) = (k ≡ length (nameOf w)) × Named line (nameOf w)
+Words line (Begins row k) = Begun line row k
 Words line Unknown = Wordless line
 
 -- ── a number ──
 
--- a digit stands at place i, or none does
-abbrev pub Digits : List ℕ → ℕ → Digit → Type 0
-Digits line i (Stands d) = (i < length line) × (d < 10) × (drop i line ≡ (48 + d) ∷ drop (suc i) line)
-Digits line i Not = Stops isDigit (drop i line)
-
--- the digit d behind the digits of x
-abbrev pub Pushes : ℕ → ℕ → Pushed → Type 0
-Pushes x d (Longer y) = (y ≡ 10 * x + d) × (y < 2 ^ 64)
-Pushes x d Wide = 2 ^ 64 ≤ 10 * x + d
+-- the byte is that of the digit d; 10 stands for a byte that is no digit's
+pub record Digit (b d : ℕ) : Type 0 where
+  pub is : d < 10 → b ≡ 48 + d
+  pub none : 10 ≤ d → isDigit b ≡ false
 
 -- the text t is the digits of v and then the line from place e on, where no digit stands
 pub record Reading (t line : List ℕ) (e v : ℕ) : Type 0 where
@@ -127,14 +134,14 @@ abbrev pub Fieldless : List ℕ → Type 0
 Fieldless t = (v : ℕ) (rest : List ℕ) → v < 2 ^ 64 → Stops isDigit rest → t ≡ 32 ∷ digitsOf v ++ rest → ⊥
 
 -- the numbers of the fields in front of a text, up to where no field stands
-pub data Leads : List ℕ → List ℕ → Type 0 where
-  none : {t : List ℕ} → Fieldless t → Leads t []
-  more : {t rest ns : List ℕ} {v : ℕ} → v < 2 ^ 64 → Stops isDigit rest → t ≡ 32 ∷ digitsOf v ++ rest → Leads rest ns → Leads t (v ∷ ns)
+pub data Fronts : List ℕ → List ℕ → Type 0 where
+  none : {t : List ℕ} → Fieldless t → Fronts t []
+  more : {t rest ns : List ℕ} {v : ℕ} → v < 2 ^ 64 → Stops isDigit rest → t ≡ 32 ∷ digitsOf v ++ rest → Fronts rest ns → Fronts t (v ∷ ns)
 
 -- these numbers are written in front, and nothing else is touched
 pub record Leaves (t out out′ : List ℕ) : Type 0 where
   pub front : List ℕ
-  pub leads : Leads t front
+  pub leads : Fronts t front
   pub is : out′ ≡ front ++ drop (length front) out
 
 pub record Gathers (t out out′ : List ℕ) (r : Fields) : Type 0 where

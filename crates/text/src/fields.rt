@@ -1,19 +1,10 @@
 // The numbers of a line.
+ghost use mathlib.Core.Path.{_≡_};
 ghost use mathlib.Core.List.{_++_};
 ghost use Prim.Native.Nat.{_+_, _*_, _≤_, _<_};
 ghost use lib.ListN.{length, drop};
-ghost use Rattle.text.specs.Grammar.{digitsOf};
-ghost use Rattle.text.specs.Reads.{Digits, Pushes, Reads, Gathers};
-
-pub enum Digit {
-    Is(u64),
-    Not,
-}
-
-pub enum Pushed {
-    Is(u64),
-    Wide,
-}
+ghost use Rattle.text.specs.Grammar.{digitsOf, fitted};
+ghost use Rattle.text.specs.Reads.{Digit, Reads, Gathers};
 
 pub enum Field {
     Is(u64, usize),
@@ -25,33 +16,28 @@ pub enum Fields {
     Bad,
 }
 
-// The digit at a place of the line.
-fn digit_at(line: &[u8], i: usize) -> Digit
-    ensures { λ r. ⌜ Digits (now (line .entry)) i r ⌝ }
+// A number too wide for the library counts as its largest.
+pub fn narrow(x: u64) -> u32
+    ensures { λ r. ⌜ r ≡ fitted x ⌝ }
 {
-    if i < line.len() {
-        let b = line[i];
-        if b < b'0' {
-            return Digit::Not;
-        }
-        if b'9' < b {
-            return Digit::Not;
-        }
-        return Digit::Is((b - b'0') as u64);
+    if x < u32::MAX as u64 {
+        x as u32
+    } else {
+        u32::MAX
     }
-    Digit::Not
 }
 
-// A digit behind the digits of x, as long as that is below 2^64.
-fn push(x: u64, d: u64) -> Pushed
-    requires { ⌜ d < 10 ⌝ }
-    ensures { λ r. ⌜ Pushes x d r ⌝ }
+// The digit that a byte stands for, or 10.
+fn digit(b: u8) -> u64
+    ensures { λ r. ⌜ Digit b r ⌝ }
 {
-    if x <= (18446744073709551615 - d) / 10 {
-        Pushed::Is(10 * x + d)
-    } else {
-        Pushed::Wide
+    if b < b'0' {
+        return 10;
     }
+    if b'9' < b {
+        return 10;
+    }
+    (b - b'0') as u64
 }
 
 // The number that begins with the digits of `first`, not 0, and goes on at `from`.
@@ -61,40 +47,46 @@ fn rest_of(line: &[u8], from: usize, first: u64) -> Field
 {
     let mut i = from;
     let mut x = first;
-    loop {
-        match digit_at(line, i) {
-            Digit::Not => return Field::Is(x, i),
-            Digit::Is(d) => match push(x, d) {
-                Pushed::Wide => return Field::Bad,
-                Pushed::Is(y) => {
-                    x = y;
-                    i += 1;
-                }
-            },
+    while i < line.len() {
+        let d = digit(line[i]);
+        if 10 <= d {
+            return Field::Is(x, i);
         }
+        if (u64::MAX - d) / 10 < x {
+            return Field::Bad;
+        }
+        x = 10 * x + d;
+        i += 1;
     }
+    Field::Is(x, i)
 }
 
 // The longest run of digits from `from` on, read as a number, and the place after it.
 pub fn number(line: &[u8], from: usize) -> Field
     ensures { λ r. ⌜ Reads (drop from (now (line .entry))) (now (line .entry)) from r ⌝ }
 {
-    match digit_at(line, from) {
-        Digit::Not => Field::Bad,
-        Digit::Is(d) => {
-            if 0 < d {
-                return rest_of(line, from + 1, d);
-            }
-            match digit_at(line, from + 1) {
-                Digit::Not => Field::Is(0, from + 1),
-                Digit::Is(_) => Field::Bad,
-            }
-        }
+    if line.len() <= from {
+        return Field::Bad;
     }
+    let d = digit(line[from]);
+    if 10 <= d {
+        return Field::Bad;
+    }
+    let next = from + 1;
+    if 0 < d {
+        return rest_of(line, next, d);
+    }
+    if line.len() <= next {
+        return Field::Is(0, next);
+    }
+    if digit(line[next]) < 10 {
+        return Field::Bad;
+    }
+    Field::Is(0, next)
 }
 
 // From `from` to the line's end, a space and a number in turn. A field has two bytes or more, so there is a place for each.
-pub fn numbers(line: &[u8], from: usize, out: &mut [u64]) -> Fields
+pub(crate) fn numbers(line: &[u8], from: usize, out: &mut [u64]) -> Fields
     requires { ⌜ length (now line) ≤ from + 2 * length (now out) + 1 ⌝ }
     ensures { λ r. ⌜ Gathers (drop from (now (line .entry))) (now (out .entry)) (now (out .exit)) r ⌝ }
 {

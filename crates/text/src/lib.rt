@@ -1,6 +1,7 @@
-// Lines in, numbers out: the grammar of the program's lines on slices of bytes. Any bytes are safe.
+// The lines of the program: bytes in, a word and numbers out; and the lines that are printed. Any bytes are safe.
+pub mod answers;
 pub mod ends;
 pub mod fields;
 pub mod parses;
-pub mod words;
+pub mod vocabulary;
 pub mod writes;

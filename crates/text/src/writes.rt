@@ -1,21 +1,15 @@
-// Numbers as digits.
+// Bytes, digits and fields. What writes does so at a place, and answers the place behind what it wrote.
 ghost use mathlib.Core.Path.{_≡_};
-ghost use Prim.Native.Nat.{_+_, _≤_, min};
+ghost use Prim.Native.Nat.{_+_, _≤_, _<_};
+ghost use mathlib.Core.List.{[], _∷_};
 ghost use lib.IntN.{natAbs};
 ghost use lib.ListN.{length};
 ghost use Rattle.text.specs.Grammar.{digitsOf};
-ghost use Rattle.text.specs.Writes.{Wrote, signedOf};
-
-// A number too wide for the library counts as its largest.
-pub fn narrow(x: u64) -> u32
-    ensures { λ r. ⌜ r ≡ min x 4294967295 ⌝ }
-{
-    if x < 4294967296 { x as u32 } else { 4294967295 }
-}
+ghost use Rattle.text.specs.Writes.{Wrote, Fills, signedOf, mostDigits, mostField, mostSigned};
 
 // How many digits x has.
 fn width(x: u64) -> usize
-    ensures { λ r. ⌜ (r ≡ length (digitsOf x)) × (r ≤ 20) ⌝ }
+    ensures { λ r. ⌜ (r ≡ length (digitsOf x)) × (r ≤ mostDigits) ⌝ }
 {
     let mut n: usize = 1;
     let mut y = x;
@@ -27,8 +21,8 @@ fn width(x: u64) -> usize
 }
 
 // The digits of x from `at` on, and the place after them.
-pub fn write_number(out: &mut [u8], at: usize, x: u64) -> usize
-    requires { ⌜ at + 20 ≤ length (now out) ⌝ }
+pub(crate) fn write_number(out: &mut [u8], at: usize, x: u64) -> usize
+    requires { ⌜ at + mostDigits ≤ length (now out) ⌝ }
     ensures { λ r. ⌜ Wrote (now (out .entry)) at (digitsOf x) r (now (out .exit)) ⌝ }
 {
     let end = at + width(x);
@@ -53,8 +47,8 @@ fn size(x: i64) -> u64
 }
 
 // A minus sign, if x is below 0, and the digits of its size.
-pub fn write_signed(out: &mut [u8], at: usize, x: i64) -> usize
-    requires { ⌜ at + 21 ≤ length (now out) ⌝ }
+pub(crate) fn write_signed(out: &mut [u8], at: usize, x: i64) -> usize
+    requires { ⌜ at + mostField ≤ length (now out) ⌝ }
     ensures { λ r. ⌜ Wrote (now (out .entry)) at (signedOf x) r (now (out .exit)) ⌝ }
 {
     let n = size(x);
@@ -63,4 +57,42 @@ pub fn write_signed(out: &mut [u8], at: usize, x: i64) -> usize
         return write_number(out, at + 1, n);
     }
     write_number(out, at, n)
+}
+
+pub(crate) fn byte(out: &mut [u8], at: usize, b: u8) -> usize
+    requires { ⌜ at < length (now out) ⌝ }
+    ensures { λ r. ⌜ Wrote (now (out .entry)) at (b ∷ []) r (now (out .exit)) ⌝ }
+{
+    out[at] = b;
+    at + 1
+}
+
+pub(crate) fn bytes(out: &mut [u8], at: usize, s: &[u8]) -> usize
+    requires { ⌜ at + length (now s) ≤ length (now out) ⌝ }
+    ensures { λ r. ⌜ Wrote (now (out .entry)) at (now (s .entry)) r (now (out .exit)) ⌝ }
+{
+    let mut i: usize = 0;
+    while i < s.len() {
+        out[at + i] = s[i];
+        i += 1;
+    }
+    at + i
+}
+
+// A space and a number.
+pub(crate) fn number_field(out: &mut [u8], at: usize, x: u64) -> usize
+    requires { ⌜ at + mostField ≤ length (now out) ⌝ }
+    ensures { λ r. ⌜ Fills (now (out .entry)) at (32 ∷ digitsOf x) mostField r (now (out .exit)) ⌝ }
+{
+    let p = byte(out, at, b' ');
+    write_number(out, p, x)
+}
+
+// A space and a number with its sign.
+pub(crate) fn signed_field(out: &mut [u8], at: usize, x: i64) -> usize
+    requires { ⌜ at + mostSigned ≤ length (now out) ⌝ }
+    ensures { λ r. ⌜ Fills (now (out .entry)) at (32 ∷ signedOf x) mostSigned r (now (out .exit)) ⌝ }
+{
+    let p = byte(out, at, b' ');
+    write_signed(out, p, x)
 }

@@ -1,10 +1,10 @@
--- A plan's graph, durations and starts, as the kernels read them off the store's words. Assumes nothing.
+-- A plan's graph, durations and starts, as they are read off the store's words. Assumes nothing.
 use Prim.Native.Nat.{ℕ, zero, suc, _+_, _≤_, _<_}
 use mathlib.Core.Path.{_≡_, refl, sym, ap, _∙_, fun-ext}
 use mathlib.Core.Bool.{Bool, false, cond}
 use mathlib.Core.Logic.{_⊎_, inl, inr}
 use native.Mathlib.Omega.{arith}
-use lib.ListN.{getD}
+use lib.ListN.{getD, List·getD-eq-default}
 use borrow.Author.Tests.{lt-ltb, le-ltb}
 use Rattle.rules.specs.Lists.{table}
 use Rattle.rules.specs.Sizes.{duration, mostJobs, longest}
@@ -15,8 +15,8 @@ use Rattle.rules.specs.Sound.{Sound}
 use Rattle.rules.proofs.Ranges.{lt-or-le, greatest-lub}
 use Rattle.rules.proofs.Tabled.{table-at, table-past}
 use Rattle.rules.proofs.Puts.{live-inside}
-use Rattle.routes.specs.Desks.{edgesOf}
-use Rattle.routes.proofs.Desking.{out-is, past}
+use Rattle.edges.specs.Plans.{edgesOf}
+use Rattle.edges.proofs.Plans.{out-is}
 use Rattle.graphs.specs.Graph.{outOf, at, Below, live as liveIn}
 use Rattle.times.specs.Words.{spanWords, startOf}
 
@@ -39,7 +39,7 @@ module _ (p : Plan) (S : Sound p) where
       go : (v : ℕ) → (v < mostJobs) ⊎ (mostJobs ≤ v) → getD (table mostJobs (duration (p .base))) v 0 ≡ duration (p .base) v
       go v (inl h) = table-at mostJobs (duration (p .base)) 0 v h
       go v (inr h) = table-past mostJobs (duration (p .base)) 0 v h
-          ∙ sym (past (p .base .durations) v 0 (let a = S .loaded .durations in let b = S .loaded .jobs in omega arith))
+          ∙ sym (List·getD-eq-default (p .base .durations) 0 (let a = S .loaded .durations in let b = S .loaded .jobs in omega arith))
 
   pub spans-short : (u : ℕ) → u < p .base .jobs → at (spanWords (p .base)) u ≤ longest
   spans-short u h = let a = S .loaded .short u in let b = ap (λ (f : ℕ → ℕ). f u) span-fun in omega arith

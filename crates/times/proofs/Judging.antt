@@ -1,8 +1,8 @@
--- The kernels' verdicts are the plan's: a line-up, none, every start, the shown line-up and the shown cycle. Assumes nothing.
+-- A verdict on the edges' model is the plan's; so are the starts, the shown line-up and the shown cycle. Assumes nothing.
 use Prim.Native.Nat.{ℕ}
 use mathlib.Core.Path.{_≡_, refl, sym, ap, subst, _∙_}
 use mathlib.Core.Bool.{Bool, true, false, not}
-use mathlib.Core.Option.{Option, none, some}
+use mathlib.Core.Option.{Option}
 use mathlib.Core.List.{List}
 use Rattle.rules.specs.Lists.{isSome}
 use Rattle.rules.specs.Graphs.{Graph, LineUp}
@@ -11,8 +11,9 @@ use Rattle.rules.specs.Scores.{start, starts, isCyclic}
 use Rattle.rules.specs.Shown.{order, cycle, shownLineUp, shownCycle}
 use Rattle.rules.specs.Sound.{Sound}
 use Rattle.rules.proofs.Plans.{cyclic-no-lineup}
-use Rattle.routes.specs.Desks.{edgesOf}
+use Rattle.edges.specs.Plans.{edgesOf}
 use Rattle.graphs.specs.Graph.{at, zeros, live as liveIn}
+use Rattle.starts.specs.Lines.{Verdict}
 use Rattle.times.specs.Words.{spanWords}
 use Rattle.times.proofs.Graphing.{live-fun, span-fun}
 
@@ -28,20 +29,14 @@ module _ (p : Plan) (S : Sound p) where
   unfolding shownCycle
   cycle-is = ap {B = Option (List ℕ)} (cycle n) (live-fun p S)
 
-  pub lined-calm : (l : List ℕ) → LineUp n (liveIn (edgesOf p)) l → isCyclic p ≡ false
-  lined-calm l L = go (isCyclic p) refl
+  pub judged : (r : Bool) → Verdict (edgesOf p) n r → isCyclic p ≡ not r
+  unfolding isCyclic
+  judged false e = ap (λ (o : Option (List ℕ)). not (isSome o)) (sym order-is ∙ e)
+  judged true (l, L) = go (isCyclic p) refl
     where
       go : (b : Bool) → isCyclic p ≡ b → b ≡ false
       go false e = refl
       go true e = absurd (cyclic-no-lineup p .0 e l (subst (λ (E : Graph). LineUp n E l) (live-fun p S) L))
-
-  pub shown-calm : (l : List ℕ) → order n (liveIn (edgesOf p)) ≡ some l → isCyclic p ≡ false
-  unfolding isCyclic
-  shown-calm l e = ap (λ (o : Option (List ℕ)). not (isSome o)) (sym order-is ∙ e)
-
-  pub stuck-looped : order n (liveIn (edgesOf p)) ≡ none → isCyclic p ≡ true
-  unfolding isCyclic
-  stuck-looped e = ap (λ (o : Option (List ℕ)). not (isSome o)) (sym order-is ∙ e)
 
   pub starts-are : (v : ℕ) → start n (liveIn (edgesOf p)) zeros (at (spanWords (p .base))) n v ≡ starts p v
   unfolding starts

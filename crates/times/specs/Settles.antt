@@ -3,7 +3,8 @@ use Prim.Native.Nat.{ℕ, _+_, _%_, _^_, _≤_, _<_}
 use mathlib.Core.Path.{_≡_}
 use mathlib.Core.Bool.{true, false}
 use mathlib.Core.List.{List, [], map}
-use lib.ListN.{length, getD, take}
+use lib.ListN.{length, getD}
+use Rattle.rules.specs.declared.Report.{Report}
 use Rattle.rules.specs.declared.Report.the-variants.{Full}
 use Rattle.rules.specs.Lists.{greatest, isEmpty}
 use Rattle.rules.specs.Sizes.{mostEntries}
@@ -12,14 +13,7 @@ use Rattle.rules.specs.Scores.{isCyclic}
 use Rattle.rules.specs.Reports.{headOf, push, seeds, putReport}
 use Rattle.rules.specs.Sound.{Sound}
 use Rattle.edges.specs.Edges.{Holds}
-use Rattle.routes.specs.Desks.{edgesOf}
-use Rattle.graphs.specs.Queue.{Queued}
-use Rattle.kernels.specs.declared.rows.Tail.{Tail}
-use Rattle.kernels.specs.declared.rows.Tail.the-variants.{Is as Upto, Bad as Lost}
-use Rattle.kernels.specs.Rows.{Short}
-use Rattle.kernels.specs.Lines.{Lows}
-use Rattle.times.specs.declared.settle.Settled.{Settled}
-use Rattle.times.specs.declared.settle.Settled.the-variants.{Is}
+use Rattle.edges.specs.Plans.{edgesOf}
 use Rattle.times.specs.Words.{spanWords, timeWords}
 
 -- ── the makespan ──
@@ -41,33 +35,12 @@ pub record Given (p : Plan) (e sp : List ℕ) (n : ℕ) : Type 0 where
   pub spans : sp ≡ spanWords (p .base)
   pub jobs : n ≡ p .base .jobs
 
-pub record Renewed (p : Plan) (r : Settled) (ts′ : List ℕ) : Type 0 where
-  pub report : r ≡ Is Full
+pub record Renewed (p : Plan) (r : Report) (ts′ : List ℕ) : Type 0 where
+  pub report : r ≡ Full
   pub times : ts′ ≡ timeWords p
 
-pub record Renews (e sp : List ℕ) (n : ℕ) (r : Settled) (ts′ : List ℕ) : Type 0 where
+pub record Renews (e sp : List ℕ) (n : ℕ) (r : Report) (ts′ : List ℕ) : Type 0 where
   pub is : (p : Plan) → Given p e sp n → Renewed p r ts′
-
--- ── the seeds ──
-
--- the queue is q
-abbrev pub Stands : ℕ → List ℕ → List ℕ → List ℕ → Tail → Type 0
-Stands n q ring mark (Upto k) = Queued n mark (take k ring) × (take k ring ≡ q)
-Stands n q ring mark Lost = ⊥
-
--- the jobs vs are queued behind the first len places, each once
-pub record Queues (vs : List ℕ) (n len : ℕ) (ring mark : List ℕ) (r : Tail) (ring′ mark′ : List ℕ) : Type 0 where
-  pub short : Short r
-  pub keeps : Lows n vs → Queued n mark (take len ring) → Stands n (push (take len ring) vs) ring′ mark′ r
-
-abbrev pub Seeding : List ℕ → List ℕ → Tail → Type 0
-Seeding q ring (Upto k) = take k ring ≡ q
-Seeding q ring Lost = ⊥
-
--- the jobs vs, each once, are the first of the ring
-pub record Seeds (vs : List ℕ) (n : ℕ) (r : Tail) (ring′ : List ℕ) : Type 0 where
-  pub short : Short r
-  pub is : Lows n vs → Seeding (push [] vs) ring′ r
 
 -- ── a put ──
 
@@ -82,16 +55,16 @@ pub record Putting (p : Plan) (o : ℕ) (l e sp : List ℕ) (n : ℕ) : Type 0 w
   pub jobs : n ≡ p .base .jobs
 
 -- the put's report, and the times after it
-pub record Refreshed (p : Plan) (o : ℕ) (l : List ℕ) (r : Settled) (ts′ : List ℕ) : Type 0 where
-  pub report : r ≡ Is (putReport p o l)
+pub record Refreshed (p : Plan) (o : ℕ) (l : List ℕ) (r : Report) (ts′ : List ℕ) : Type 0 where
+  pub report : r ≡ putReport p o l
   pub times : ts′ ≡ timeWords (putPlan p o l)
 
--- without a cycle before and after, from the seeds q
-pub record Mends (e sp ts q : List ℕ) (n : ℕ) (r : Settled) (ts′ : List ℕ) : Type 0 where
-  pub is : (p : Plan) (o : ℕ) (l : List ℕ) → Putting p o l e sp n → ts ≡ timeWords p → q ≡ seeds p o l → isEmpty (seeds p o l) ≡ false
-      → isCyclic p ≡ false → isCyclic (putPlan p o l) ≡ false → Refreshed p o l r ts′
+-- without a cycle before and after, from the heads of the edges that came and went
+pub record Mends (e sp ts heads : List ℕ) (n : ℕ) (r : Report) (ts′ : List ℕ) : Type 0 where
+  pub is : (p : Plan) (o : ℕ) (l : List ℕ) → Putting p o l e sp n → ts ≡ timeWords p → push [] heads ≡ seeds p o l
+      → isEmpty (seeds p o l) ≡ false → isCyclic p ≡ false → isCyclic (putPlan p o l) ≡ false → Refreshed p o l r ts′
 
 -- from the heads of the edges that came and went, and of those that came
-pub record Refreshes (e sp ts heads new : List ℕ) (n : ℕ) (r : Settled) (ts′ : List ℕ) : Type 0 where
+pub record Refreshes (e sp ts heads new : List ℕ) (n : ℕ) (r : Report) (ts′ : List ℕ) : Type 0 where
   pub is : (p : Plan) (o : ℕ) (l : List ℕ) → Putting p o l e sp n → ts ≡ timeWords p → push [] heads ≡ seeds p o l
       → push [] new ≡ push [] (map headOf (ownStage p o l .came)) → Refreshed p o l r ts′

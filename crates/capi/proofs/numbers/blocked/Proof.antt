@@ -1,7 +1,8 @@
 -- `blocked`. Assumes nothing.
 use borrow.Author.Needs.{needs}
 use Rattle.blocks.specs.Promise.{saysBlocked}
-use Rattle.capi.proofs.Answering.{says, records-length}
+use Rattle.blocks.proofs.Unique.{records-length}
+use Rattle.capi.proofs.Answering.{says}
 use Rattle.capi.proofs.numbers.blocked.Statement.{statement}
 use Rattle.capi.proofs.numbers.blocked.Tie as tie
 
@@ -13,5 +14,5 @@ blocked-spec =
     (λ c κs. search needs)
     (λ c. search needs)
     (λ c κs. search needs)
-    (λ c out. search (needs, says (saysBlocked out), records-length))
+    (λ c out. search (needs, says (saysBlocked out)))
     (λ c out. search (needs, says (saysBlocked out), records-length)))

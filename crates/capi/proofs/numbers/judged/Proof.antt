@@ -16,6 +16,6 @@ judged-spec =
     (λ c κs. search needs)
     (λ c. search needs)
     (λ c κs. search needs)
-    (λ c out. search (needs, says (saysVerdict out), places-length))
+    (λ c out. search (needs, says (saysVerdict out)))
     (λ c out. search (needs, says (saysVerdict out), places-length))
     (λ c out. search (needs, says (saysVerdict out), places-length)))

@@ -14,5 +14,5 @@ moved-spec =
     (λ c κs. search needs)
     (λ c. search needs)
     (λ c κs. search needs)
-    (λ c out. search (needs, says (saysMoved out), places-length))
+    (λ c out. search (needs, says (saysMoved out)))
     (λ c out. search (needs, says (saysMoved out), places-length)))

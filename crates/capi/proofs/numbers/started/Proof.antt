@@ -14,5 +14,5 @@ started-spec =
     (λ c κs. search needs)
     (λ c. search needs)
     (λ c κs. search needs)
-    (λ c out. search (needs, says (saysStarted out), places-length))
+    (λ c out. search (needs, says (saysStarted out)))
     (λ c out. search (needs, says (saysStarted out), places-length)))

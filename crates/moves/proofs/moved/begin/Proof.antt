@@ -1,5 +1,5 @@
--- `begin`. Assumes nothing.
-use Rattle.moves.proofs.Promised.{begins-bad, begins-broken, begins-closed, begins-nobody, begins-of, owner-near}
+-- `begin`: by what the header says, then by the owner, then by its route. Assumes nothing.
+use Rattle.moves.proofs.Promised.{begins-broken, begins-closed, begins-nobody, begins-of}
 use borrow.Author.Tests.{not-false, not-true}
 use Rattle.stores.proofs.Openings.{open-is}
 use lib.ListN.{length-take}
@@ -19,25 +19,18 @@ returns c =
 
 slice-aggregate-route-of : tie.Need-slice-aggregate-route-of
 slice-aggregate-route-of c =
-    let the-opened = c .before .before .before .before .before .before .before .opened in
-    let the-plan = c .before .before .before .before .before .plan in
-    let o = open-is _ _ _ (sym (the-opened .ensures) ∙ the-plan .given .1) in let l = o .long .routes in simp length-take (omega arith)
+    let the-opened = c .before .before .before .before .before .before .opened in
+    let the-plan = c .before .before .before .before .plan in
+    let l = open-is _ _ _ (sym (the-opened .ensures) ∙ the-plan .given .1) .long .routes in
+    simp length-take (omega arith)
 
 route-of-requires : tie.Need-route-of-requires
 route-of-requires c κs =
-    let the-opened = c .before .before .before .before .before .before .before .before .opened in
-    let the-plan = c .before .before .before .before .before .before .plan in
-    let start = c .before .before .before .before .before .before .before .before .before .before .before .before .before .before .before in
-    let the-broad = c .before .before .broad in
-    let the-has-owner = c .before .before .before .before .has-owner in
-    let the-if1 = c .before .before .before .if1 in
-    let o = open-is _ _ _ (sym (the-opened .ensures) ∙ the-plan .given .1) in
-    let l = o .long .routes in (
-      simp length-take (omega arith),
-      start .pre,
-      owner-near (the-broad .ensures) (the-has-owner .ensures) (not-false _ (the-if1 .left))
-          (o .owners),
-    )
+    let the-opened = c .before .before .before .before .before .before .before .opened in
+    let the-plan = c .before .before .before .before .before .plan in
+    let start = c .before .before .before .before .before .before .before .before .before .before .before .before .before .before in
+    let l = open-is _ _ _ (sym (the-opened .ensures) ∙ the-plan .given .1) .long .routes in
+    (simp length-take (omega arith), start .pre)
 
 returns-2 : tie.Need-returns-2
 returns-2 c =
@@ -47,42 +40,25 @@ returns-2 c =
 
 returns-3 : tie.Need-returns-3
 returns-3 c =
-    let the-opened = c .before .before .before .before .before .before .before .before .before .before .before .before .before .opened in
-    let the-plan = c .before .before .before .before .before .before .before .before .before .before .before .plan in
-    let the-has-owner = c .before .before .before .before .before .before .before .before .before .has-owner in
-    let the-if1 = c .before .before .before .before .before .before .before .before .if1 in
-    let the-broad = c .before .before .before .before .before .before .before .broad in
+    let at-if = c .before .before .before .before .before .before .before in
+    let the-has-owner = at-if .before .has-owner in
+    let the-plan = at-if .before .before .before .plan in
+    let the-opened = at-if .before .before .before .before .before .opened in
     let the-route-of = c .before .before .before .before .route-of in
-    let the-enum-told = c .enum-told in
     let o = open-is _ _ _ (sym (the-opened .ensures) ∙ the-plan .given .1) in
-    begins-bad _ _ (the-opened .ensures) (the-plan .given .1) (the-has-owner .ensures) (not-false _ (the-if1 .left)) (o .owners) (the-broad
-    .ensures) (the-route-of .ensures) (the-enum-told .given .1)
+    begins-broken _ _ (the-opened .ensures) (the-plan .given .1) (the-has-owner .ensures) (not-false _ (at-if .if1 .left)) (o .owners)
+    (the-route-of .ensures) (c .enum-told .given .1)
 
 returns-4 : tie.Need-returns-4
 returns-4 c =
-    let the-opened = c .before .before .before .before .before .before .before .before .before .before .before .before .before .opened in
-    let the-plan = c .before .before .before .before .before .before .before .before .before .before .before .plan in
-    let the-has-owner = c .before .before .before .before .before .before .before .before .before .has-owner in
-    let the-if1 = c .before .before .before .before .before .before .before .before .if1 in
-    let the-broad = c .before .before .before .before .before .before .before .broad in
-    let the-route-of = c .before .before .before .before .route-of in
-    let the-enum-told2 = c .enum-told2 in
-    let o = open-is _ _ _ (sym (the-opened .ensures) ∙ the-plan .given .1) in
-    begins-broken _ _ (the-opened .ensures) (the-plan .given .1) (the-has-owner .ensures) (not-false _ (the-if1 .left)) (o .owners)
-    (the-broad .ensures) (the-route-of .ensures) (the-enum-told2 .given .1)
-
-returns-5 : tie.Need-returns-5
-returns-5 c =
-    let the-opened = c .before .before .before .before .before .before .before .before .before .before .before .before .before .before .opened in
-    let the-plan = c .before .before .before .before .before .before .before .before .before .before .before .before .plan in
-    let the-has-owner = c .before .before .before .before .before .before .before .before .before .before .has-owner in
-    let the-if1 = c .before .before .before .before .before .before .before .before .before .if1 in
-    let the-broad = c .before .before .before .before .before .before .before .before .broad in
+    let at-if = c .before .before .before .before .before .before .before .before in
+    let the-has-owner = at-if .before .has-owner in
+    let the-plan = at-if .before .before .before .plan in
+    let the-opened = at-if .before .before .before .before .before .opened in
     let the-route-of = c .before .before .before .before .before .route-of in
-    let the-len = c .before .len in
     let o = open-is _ _ _ (sym (the-opened .ensures) ∙ the-plan .given .1) in
-    begins-of _ _ (the-opened .ensures) (the-plan .given .1) (the-has-owner .ensures) (not-false _ (the-if1 .left)) (o .owners) (the-broad
-    .ensures) (the-route-of .ensures) (the-len .given .1)
+    begins-of _ _ (the-opened .ensures) (the-plan .given .1) (the-has-owner .ensures) (not-false _ (at-if .if1 .left)) (o .owners)
+    (the-route-of .ensures) (c .before .len .given .1)
 
 pub begin-spec : {M : Type 1} → statement M
 begin-spec =
@@ -93,16 +69,12 @@ begin-spec =
     (λ c. search needs)
     (λ c κs. search needs)
     returns
-    (λ c κs. search needs)
     slice-aggregate-route-of
     route-of-requires
-    (λ c. search needs)
     (λ c. search needs)
     (λ c. search needs)
     returns-2
     (λ c. search needs)
     returns-3
     (λ c. search needs)
-    returns-4
-    (λ c. search needs)
-    returns-5)
+    returns-4)

@@ -1,91 +1,19 @@
 -- `meets`. Assumes nothing.
 use Prim.Native.Nat.{_≤_}
-use mathlib.Core.Path.{_≡_, _∙_}
+use mathlib.Core.Path.{_≡_}
 use lib.ListN.{length}
-use Rattle.kernels.proofs.Lined.{short-of}
-use Rattle.views.specs.Aheads.{headsFrom}
-use Rattle.probes.proofs.Tallied.{heads-end, heads-less, heads-next}
-use Rattle.probes.proofs.Turnings.{Wading, wading-bad, wading-done, wading-next, wading-none}
-use borrow.Author.Needs.{needs}
+use Rattle.rules.specs.Sizes.{mostEntries, mostJobs}
+use Rattle.probes.specs.Aheads.{headsFrom}
+use Rattle.probes.proofs.Backways.{Wading, wading}
 use Rattle.probes.proofs.quick.meets.Statement.{statement}
 use Rattle.probes.proofs.quick.meets.Tie as tie
 
 abbrev Inv-loop : tie.InvT-loop
-Inv-loop e off plus queue₀ dist₀ u f t d n start tail₀ at₀ queue dist tail at = (length queue ≡ 512) × (length dist ≡ 512) × (tail ≤ 512) ×
-    Wading (headsFrom e off plus u t f) d n start queue₀ dist₀ (headsFrom e off plus u t at) tail queue dist
+Inv-loop row off plus u queue₀ dist₀ d n start tail₀ k₀ at₀ queue dist tail k at =
+    (length queue ≡ mostJobs) × (length dist ≡ mostJobs) × (tail ≤ mostJobs) × (at ≤ mostEntries) × Wading row off plus u d n start queue₀ dist₀ k at tail queue dist
 
 abbrev μ-loop : tie.MeasureT-loop
-μ-loop e off plus queue₀ dist₀ u f t d n start tail₀ at₀ queue dist tail at = length (headsFrom e off plus u t at)
-
-loop-holds : tie.Need-loop-holds Inv-loop μ-loop
-loop-holds c =
-    let start = c .before .before .before .before .before in
-    (start .pre .1, start .pre .2, start .pre .6, wading-none _ _ _ _ _ _)
-
-head-from-requires : tie.Need-head-from-requires Inv-loop μ-loop
-head-from-requires c κs = search needs
-
-enum-told : tie.Need-enum-told Inv-loop μ-loop
-enum-told c = search needs
-
-same-length : tie.Need-same-length Inv-loop μ-loop
-same-length c = search needs
-
-same-length-2 : tie.Need-same-length-2 Inv-loop μ-loop
-same-length-2 c = search needs
-
-returns : tie.Need-returns Inv-loop μ-loop
-returns c =
-    let the-loop = c .before .before .before .loop in
-    let the-head-from = c .before .before .head-from in
-    let the-enum-told = c .enum-told in
-    wading-done (the-loop .inv .3) (heads-end (the-head-from .ensures) (the-enum-told .given .1)) (the-loop .inv .2)
-
-enum-known-v : tie.Need-enum-known-v Inv-loop μ-loop
-enum-known-v c = search needs
-
-meet-requires : tie.Need-meet-requires Inv-loop μ-loop
-meet-requires c κs = search needs
-
-enum-told-2 : tie.Need-enum-told-2 Inv-loop μ-loop
-enum-told-2 c = search needs
-
-same-length-3 : tie.Need-same-length-3 Inv-loop μ-loop
-same-length-3 c = search needs
-
-same-length-4 : tie.Need-same-length-4 Inv-loop μ-loop
-same-length-4 c = search needs
-
-returns-2 : tie.Need-returns-2 Inv-loop μ-loop
-returns-2 c =
-    let the-loop = c .before .before .before .before .before .before .before .before .before .before .before .before .before .loop in
-    let the-head-from = c .before .before .before .before .before .before .before .before .before .before .before .before .head-from in
-    let the-v = c .before .before .before .before .before .before .before .before .before .before .v in
-    let the-meet = c .before .before .before .before .before .before .meet in
-    let the-enum-told2 = c .enum-told2 in
-    wading-bad (the-loop .inv .3) (heads-next (the-head-from .ensures) (the-v .given .1)) (the-meet .ensures) (the-enum-told2 .given .1)
-
-enum-known-y : tie.Need-enum-known-y Inv-loop μ-loop
-enum-known-y c = search needs
-
-loop-less : tie.Need-loop-less Inv-loop μ-loop
-loop-less c =
-    let the-head-from = c .before .before .before .before .before .before .before .before .before .before .before .before .before .head-from in
-    let the-v = c .before .before .before .before .before .before .before .before .before .before .before .v in
-    heads-less (the-head-from .ensures) (the-v .given .1)
-
-loop-again : tie.Need-loop-again Inv-loop μ-loop
-loop-again c =
-    let the-meet = c .before .before .before .before .before .before .before .meet in
-    let the-loop = c .before .before .before .before .before .before .before .before .before .before .before .before .before .before .loop in
-    let the-y = c .before .y in
-    let the-head-from = c .before .before .before .before .before .before .before .before .before .before .before .before .before .head-from in
-    let the-v = c .before .before .before .before .before .before .before .before .before .before .before .v in (
-      the-meet .kept .0 ∙ the-loop .inv .0,
-      the-meet .kept .1 .0 ∙ the-loop .inv .1,
-      short-of (the-meet .ensures .short) (the-y .given .1),
-      wading-next (the-loop .inv .3) (heads-next (the-head-from .ensures) (the-v .given .1)) (the-meet .ensures) (the-y .given .1),
-    )
+μ-loop row off plus u queue₀ dist₀ d n start tail₀ k₀ at₀ queue dist tail k at = length (headsFrom row off plus u k at)
 
 pub meets-spec : {M : Type 1} → statement M
 meets-spec =
@@ -93,18 +21,17 @@ meets-spec =
     (tie.spec
     Inv-loop
     μ-loop
-    loop-holds
-    head-from-requires
-    enum-told
-    same-length
-    same-length-2
-    returns
-    enum-known-v
-    meet-requires
-    enum-told-2
-    same-length-3
-    same-length-4
-    returns-2
-    enum-known-y
-    loop-less
-    loop-again)
+    (λ c κs. search wading)
+    (λ c. search wading)
+    (λ c. search wading)
+    (λ c κs. search wading)
+    (λ c. search wading)
+    (λ c κs. search wading)
+    (λ c. search wading)
+    (λ c. search wading)
+    (λ c. search wading)
+    (λ c. search wading)
+    (λ c. search wading)
+    (λ c κs. search wading)
+    (λ c. search wading)
+    (λ c. search wading))

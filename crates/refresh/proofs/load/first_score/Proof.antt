@@ -1,12 +1,11 @@
--- `first_score`: the times anew, then the score. Assumes nothing.
 use native.Mathlib.Omega.{arith}
 use mathlib.Core.Path.{sym, _∙_}
 use lib.Seq.{length-take-le}
-use Rattle.refresh.proofs.Accepting.{rates-bad, rates-is}
+use Rattle.rules.specs.Sizes.{edgesLength, spansLength, timesLength}
+use Rattle.refresh.proofs.Accepting.{rates-is}
 use borrow.Author.Needs.{needs}
 use Rattle.refresh.proofs.load.first_score.Statement.{statement}
 use Rattle.refresh.proofs.load.first_score.Tie as tie
-use Rattle.rules.specs.Sizes.{edgesLength, timesLength}
 
 slice-aggregate-anew : tie.Need-slice-aggregate-anew
 slice-aggregate-anew c =
@@ -16,7 +15,7 @@ slice-aggregate-anew c =
 slice-aggregate-anew-2 : tie.Need-slice-aggregate-anew-2
 slice-aggregate-anew-2 c =
     let start = c .before .before .before .before .before .before .before in
-    sym (length-take-le 512 (start .args .spans .now) (start .pre .1))
+    sym (length-take-le spansLength (start .args .spans .now) (start .pre .1))
 
 slice-aggregate-anew-3 : tie.Need-slice-aggregate-anew-3
 slice-aggregate-anew-3 c =
@@ -26,24 +25,16 @@ slice-aggregate-anew-3 c =
 anew-requires : tie.Need-anew-requires
 anew-requires c κs =
     let start = c .before .before .before .before .before .before .before .before .before in
-    let p = start .pre in (
-      length-take-le edgesLength (start .args .edges .now) (p .2),
-      length-take-le 512 (start .args .spans .now) (p .1),
-      length-take-le timesLength (start .args .times .now) (p .4),
-      omega (arith, c .broad .ensures, p .5),
-    )
+    let the-broad = c .broad in
+    let p = start .pre in (length-take-le edgesLength (start .args .edges .now) (p .2), length-take-le spansLength (start .args .spans .now) (p .1), length-take-le timesLength (start .args .times .now) (p .4), omega (arith, the-broad .ensures, p .5))
 
 returns : tie.Need-returns
 returns c =
-    let at-anew = c .before .before .before .before in
-    rates-bad (at-anew .before .broad .ensures) (rw (c .enum-told .given .1) at (at-anew .anew .ensures))
-
-returns-2 : tie.Need-returns-2
-returns-2 c =
-    let at-anew = c .before .before .before .before .before .before in
-    let start = at-anew .before .before .before .before .before .before .before .before .before .before in
-    rates-is (at-anew .before .broad .ensures) (at-anew .anew .ensures)
-    (at-anew .anew .kept .1 .1 .0 ∙ length-take-le timesLength (start .args .times .now) (start .pre .4)) (c .score-of .ensures)
+    let the-broad = c .before .before .before .before .before .broad in
+    let the-anew = c .before .before .before .before .anew in
+    let start = c .before .before .before .before .before .before .before .before .before .before .before .before .before .before in
+    let the-score-of = c .score-of in
+    rates-is (the-broad .ensures) (the-anew .ensures) (the-anew .kept .1 .1 .0 ∙ length-take-le timesLength (start .args .times .now) (start .pre .4)) (the-score-of .ensures)
 
 pub first-score-spec : {M : Type 1} → statement M
 first-score-spec =
@@ -55,10 +46,6 @@ first-score-spec =
     slice-aggregate-anew-3
     (λ c κs. search needs)
     anew-requires
-    (λ c. search needs)
-    (λ c. search needs)
     (λ c κs. search needs)
     (λ c. search needs)
-    returns
-    (λ c. search needs)
-    returns-2)
+    returns)

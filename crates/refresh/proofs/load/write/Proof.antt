@@ -34,14 +34,14 @@ fixed-requires c κs =
 
 returns : tie.Need-returns
 returns c =
-    let at-fill = c .before .before in
-    let at-fixed = at-fill .before .before .before .before in
+    let at-routes = c .before .before in
+    let at-fixed = at-routes .before .before .before .before in
     let at-spans = at-fixed .before .before .before .before in
     let at-base = at-spans .before .before .before .before in
     let start = at-base .before .before .before .before .before .before .before .before .before .before in
     laid _ (start .pre .fine) (start .pre .routes-long) (at-base .write-base .ensures) (at-spans .write-spans .ensures)
     (at-fixed .fixed .ensures) (at-fixed .fixed .kept .0 ∙ length-take-le edgesLength (start .args .edges .now) (start .pre .edges-long))
-    (at-fill .fill .ensures)
+    (at-routes .no-routes .ensures)
 
 pub write-spec : {M : Type 1} → statement M
 write-spec =

@@ -1,79 +1,46 @@
--- `change`. Assumes nothing.
 use mathlib.Core.Path.{_∙_}
 use native.Mathlib.Omega.{arith}
-use Rattle.refresh.proofs.Putting.{follow-bad, follow-full, follow-lost, follow-done}
+use Rattle.refresh.proofs.Putting.{follow-bad, follow-full, follow-done}
 use borrow.Author.Needs.{needs}
 use Rattle.refresh.proofs.put.change.Statement.{statement}
 use Rattle.refresh.proofs.put.change.Tie as tie
 
 refresh-requires : tie.Need-refresh-requires
 refresh-requires c κs =
-    let at-c = c .before .before .before .before .before .before .before in
-    let at-put = at-c .before .before .before .before .before .before .before .before .before in
-    let start = at-put .before .before .before .before .before .before .before .before .before .before .before .before .before in
+    let start = c .before .before .before .before .before .before .before .before .before .before .before .before .before .before .before .before .before .before .before .before .before .before .before .before .before .before .before .before .before in
     let the-broad = c .broad in
-    let the-put = at-put .put in
-    let the-c = at-c .c in
-    let p = start .pre .0 in
-    let few = start .pre .1 .0 in
-    let jobs = the-broad .ensures in
-    let k = the-put .kept in
-    let within = rw (the-c .given .1) at (the-put .ensures .within) in
-    let came = k .1 .1 .1 .1 .1 .1 .0 in
-    let went = k .1 .1 .1 .1 .1 .1 .1 .0 in
-    let gone = k .1 .1 .1 .1 .1 .1 .1 .1 .0 in
-    let (few-came, few-went, few-gone) = within in (
-      k .1 .0 ∙ p .2,
-      p .1,
-      p .4,
-      omega arith,
-      omega (arith, few-came, came),
-      omega (arith, few-came),
-      omega (arith, few-went, went),
-      omega (arith, few-went),
-      omega (arith, few-gone, gone),
-      omega (arith, few-gone),
-    )
+    let the-put = c .before .before .before .before .before .before .before .before .before .before .before .before .before .before .before .before .put in
+    let the-c = c .before .before .before .before .before .before .before .c in
+    let p = start .pre .0 in let few = start .pre .1 .0 in let jobs = the-broad .ensures in let k = the-put .kept in let within = rw (the-c .given .1) at (the-put .ensures .within) in let came = k .1 .1 .1 .1 .1 .1 .0 in let went = k .1 .1 .1 .1 .1 .1 .1 .0 in let gone = k .1 .1 .1 .1 .1 .1 .1 .1 .0 in let (few-came, few-went, few-gone) = within in (k .1 .0 ∙ p .2, p .1, p .4, omega arith, omega (arith, few-came, came), omega (arith, few-came), omega (arith, few-went, went), omega (arith, few-went), omega (arith, few-gone, gone), omega (arith, few-gone))
 
 returns : tie.Need-returns
 returns c =
     let the-put = c .before .before .before .before .before .before .before .before .before .put in
+    let the-expected = c .before .before .before .before .before .before .before .before .before .before .before .before .before .expected in
     let the-enum-told = c .enum-told in
-    follow-bad (the-put .ensures) (the-enum-told .given .1)
+    follow-bad (the-put .ensures) (the-expected .ensures) (the-enum-told .given .1)
 
 returns-2 : tie.Need-returns-2
 returns-2 c =
     let the-put = c .before .before .before .before .before .before .before .before .before .put in
+    let the-expected = c .before .before .before .before .before .before .before .before .before .before .before .before .before .expected in
     let the-enum-told2 = c .enum-told2 in
-    follow-full (the-put .ensures) (the-enum-told2 .given .1)
+    follow-full (the-put .ensures) (the-expected .ensures) (the-enum-told2 .given .1)
 
 returns-3 : tie.Need-returns-3
 returns-3 c =
-    let at-c = c .before .before .before .before .before .before .before .before .before .before .before .before in
-    let the-put = at-c .before .before .before .before .before .before .before .before .before .put in
-    let the-c = at-c .c in
-    let the-refresh = c .before .before .before .before .refresh in
-    let the-broad = c .before .before .before .before .before .broad in
-    let the-enum-told3 = c .enum-told3 in
-    follow-lost (the-put .ensures) (the-c .given .1) (the-refresh .ensures) (the-broad .ensures) (the-enum-told3 .given .1)
-
-returns-4 : tie.Need-returns-4
-returns-4 c =
-    let at-c = c .before .before .before .before .before .before .before .before .before .before .before .before .before in
-    let the-put = at-c .before .before .before .before .before .before .before .before .before .put in
-    let the-c = at-c .c in
-    let the-refresh = c .before .before .before .before .before .refresh in
-    let the-broad = c .before .before .before .before .before .before .broad in
-    let the-r = c .before .r in
-    follow-done (the-put .ensures) (the-c .given .1) (the-refresh .ensures) (the-broad .ensures) (the-r .given .1)
+    let the-put = c .before .before .before .before .before .before .before .before .before .before .before .before .before .before .before .before .before .before .before .put in
+    let the-expected = c .before .before .before .before .before .before .before .before .before .before .before .before .before .before .before .before .before .before .before .before .before .before .before .expected in
+    let the-c = c .before .before .before .before .before .before .before .before .before .before .c in
+    let the-refresh = c .before .before .refresh in
+    let the-broad = c .before .before .before .broad in
+    follow-done (the-put .ensures) (the-expected .ensures) (the-c .given .1) (the-refresh .ensures) (the-broad .ensures)
 
 pub change-spec : {M : Type 1} → statement M
 change-spec =
     tie.close
     (tie.spec
-    (λ c. search needs)
-    (λ c. search needs)
-    (λ c. search needs)
+    (λ c κs. search needs)
     (λ c. search needs)
     (λ c. search needs)
     (λ c. search needs)
@@ -88,8 +55,6 @@ change-spec =
     refresh-requires
     (λ c. search needs)
     (λ c. search needs)
-    (λ c. search needs)
-    (λ c. search needs)
     returns
     (λ c. search needs)
     (λ c. search needs)
@@ -97,8 +62,4 @@ change-spec =
     (λ c. search needs)
     (λ c. search needs)
     (λ c. search needs)
-    returns-3
-    (λ c. search needs)
-    (λ c. search needs)
-    (λ c. search needs)
-    returns-4)
+    returns-3)

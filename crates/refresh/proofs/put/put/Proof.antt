@@ -2,7 +2,7 @@
 use native.Mathlib.Omega.{arith}
 use mathlib.Core.Path.{ap}
 use lib.ListN.{length-take}
-use Rattle.asks.proofs.Asking.{refusalOf}
+use Rattle.routes.proofs.Asking.{refusalOf}
 use Rattle.refresh.proofs.Putting.{opens-to, asked-few, put-closed, put-refused, put-changed}
 use borrow.Author.Needs.{needs}
 use Rattle.refresh.proofs.put.put.Statement.{statement}

@@ -34,7 +34,7 @@ returns c =
     let the-score-of = c .before .before .before .score-of in
     let the-r = c .before .r in
     let cut = start .pre .0 in
-    rescore-bad cut (the-score-of .ensures .is) (the-r .given .1)
+    rescore-bad cut (the-score-of .ensures) (the-r .given .1)
 
 returns-2 : tie.Need-returns-2
 returns-2 c =
@@ -45,7 +45,7 @@ returns-2 c =
     let the-change = at-change .change in
     let the-r2 = c .before .r2 in
     let cut = start .pre .0 in
-    rescore-refused cut (the-score-of .ensures .is) (the-change .ensures) (the-r2 .given .1)
+    rescore-refused cut (the-score-of .ensures) (the-change .ensures) (the-r2 .given .1)
 
 returns-3 : tie.Need-returns-3
 returns-3 c =
@@ -59,8 +59,8 @@ returns-3 c =
     let the-r3 = c .before .r3 in
     let cut = start .pre .0 in
     let k = the-change .kept .1 .1 in
-    rescore-lost cut (the-score-of .ensures .is) (the-change .ensures)
-    (cut .0, cut .1, k .0 ∙ cut .2, k .1 .0 ∙ cut .3, k .1 .1 .0 ∙ cut .4) (the-score-of2 .ensures .is) (the-report .given .1)
+    rescore-lost cut (the-score-of .ensures) (the-change .ensures)
+    (cut .0, cut .1, k .0 ∙ cut .2, k .1 .0 ∙ cut .3, k .1 .1 .0 ∙ cut .4) (the-score-of2 .ensures) (the-report .given .1)
     (the-r3 .given .1)
 
 returns-4 : tie.Need-returns-4
@@ -79,8 +79,8 @@ returns-4 c =
     let the-minus = c .minus in
     let cut = start .pre .0 in
     let k = the-change .kept .1 .1 in
-    rescore-done cut (the-score-of .ensures .is) (the-change .ensures)
-    (cut .0, cut .1, k .0 ∙ cut .2, k .1 .0 ∙ cut .3, k .1 .1 .0 ∙ cut .4) (the-score-of2 .ensures .is) (the-report .given .1)
+    rescore-done cut (the-score-of .ensures) (the-change .ensures)
+    (cut .0, cut .1, k .0 ∙ cut .2, k .1 .0 ∙ cut .3, k .1 .1 .0 ∙ cut .4) (the-score-of2 .ensures) (the-report .given .1)
     (the-before2 .given .1) (the-after .given .1) (the-minus .ensures)
 
 pub rescore-spec : {M : Type 1} → statement M

@@ -7,11 +7,5 @@ use Rattle.replay.proofs.lists.large.Tie as tie
 cast-result : tie.Need-cast-result
 cast-result c = whole-cast (c .before .fits .x) (c .if1 .left)
 
-returns : tie.Need-returns
-returns c = search needs
-
-returns-2 : tie.Need-returns-2
-returns-2 c = search needs
-
 pub large-spec : {M : Type 1} → statement M
-large-spec = tie.close (tie.spec cast-result returns returns-2)
+large-spec = tie.close (tie.spec cast-result (λ c. search needs) (λ c. search needs))

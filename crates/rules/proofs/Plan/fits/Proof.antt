@@ -19,15 +19,6 @@ not-ltb a b = by-test a b (ltb a b) refl
 -- with room between the two numbers, so that a wrong constant is refused at the fact that it breaks
 ruleset found = (lt-ltb, and-false, lt-of-le-of-lt, lit≤, tt)
 
-cast-jobs : tie.Need-cast-jobs
-cast-jobs c = search needs
-
-cast-owners : tie.Need-cast-owners
-cast-owners c = search needs
-
-cast-fixed : tie.Need-cast-fixed
-cast-fixed c = search needs
-
 returns : tie.Need-returns
 returns c = search found
 
@@ -38,4 +29,4 @@ returns-3 : tie.Need-returns-3
 returns-3 c = search (le-ltb, not-ltb)
 
 pub fits-spec : {M : Type 1} → statement M
-fits-spec = tie.close (tie.spec cast-jobs cast-owners cast-fixed returns returns-2 returns-3)
+fits-spec = tie.close (tie.spec (λ c. search needs) (λ c. search needs) (λ c. search needs) returns returns-2 returns-3)

@@ -11,14 +11,8 @@ use Rattle.rules.proofs.Score.of.Tie as tie
 mild : {n : ℕ} → n ≤ limit → Mild (pos n)
 mild h = record { far = omega arith }
 
-cast-t3 : tie.Need-cast-t3
-cast-t3 c = search needs
-
 sub-t4 : tie.Need-sub-t4
 sub-t4 c = neg-fits (mild (c .pre .0))
-
-cast-t5 : tie.Need-cast-t5
-cast-t5 c = search needs
 
 sub-t6 : tie.Need-sub-t6
 sub-t6 c = neg-fits (mild (c .pre .1))
@@ -27,4 +21,4 @@ returns : tie.Need-returns
 returns c = rw (neg-is (mild (c .pre .0)), neg-is (mild (c .pre .1)))
 
 pub of-spec : {M : Type 1} → statement M
-of-spec = tie.close (tie.spec cast-t3 sub-t4 cast-t5 sub-t6 returns)
+of-spec = tie.close (tie.spec (λ c. search needs) sub-t4 (λ c. search needs) sub-t6 returns)

@@ -22,39 +22,28 @@ slice-relend-prefix-retract : tie.Need-slice-relend-prefix-retract
 slice-relend-prefix-retract c =
     let the-opened = c .before .before .before .before .before .opened in
     let the-plan = c .before .before .before .plan in
-    let o = open-is _ _ _ (sym (the-opened .ensures) ∙ the-plan .given .1) in
-    let l = o .long .routes in
-    omega arith
+    open-is _ _ _ (sym (the-opened .ensures) ∙ the-plan .given .1) .long .routes
 
 slice-aggregate-retract : tie.Need-slice-aggregate-retract
 slice-aggregate-retract c =
     let the-opened = c .before .before .before .before .before .before .opened in
     let the-plan = c .before .before .before .before .plan in
-    let o = open-is _ _ _ (sym (the-opened .ensures) ∙ the-plan .given .1) in
-    let l = o .long .routes in
+    let l = open-is _ _ _ (sym (the-opened .ensures) ∙ the-plan .given .1) .long .routes in
     simp length-take (omega arith)
-
-cast-retract : tie.Need-cast-retract
-cast-retract c =
-    let the-opened = c .before .before .before .before .before .before .before .opened in
-    let the-plan = c .before .before .before .before .before .plan in
-    let the-owner = c .before .before .before .has-owner in
-    let the-if1 = c .before .before .if1 in
-    let o = open-is _ _ _ (sym (the-opened .ensures) ∙ the-plan .given .1) in
-    let n = c .before .before .before .before .before .before .before .before .before .before .before .before .before .args .owner .0 in
-    let m = the-plan .given .0 .0 .owners in
-    let k : n < m = ltb-true n m (sym (the-owner .ensures) ∙ not-false _ (the-if1 .left)) in
-    let l = o .owners in
-    let z : n < 65536 = omega arith in
-    record { fits = z }
 
 retract-requires : tie.Need-retract-requires
 retract-requires c κs =
-    let the-opened = c .before .before .before .before .before .before .before .opened in
-    let the-plan = c .before .before .before .before .before .plan in
+    let the-opened = c .before .before .before .before .before .before .opened in
+    let the-plan = c .before .before .before .before .plan in
+    let the-owner = c .before .before .has-owner in
+    let the-if1 = c .before .if1 in
     let o = open-is _ _ _ (sym (the-opened .ensures) ∙ the-plan .given .1) in
+    let n = c .before .before .before .before .before .before .before .before .before .before .before .before .args .owner .0 in
+    let m = the-plan .given .0 .0 .owners in
+    let k : n < m = ltb-true n m (sym (the-owner .ensures) ∙ not-false _ (the-if1 .left)) in
     let l = o .long .routes in
-    simp length-take (omega arith)
+    let few = o .owners in
+    (simp length-take (omega arith), omega arith)
 
 returns-2 : tie.Need-returns-2
 returns-2 c =
@@ -64,20 +53,20 @@ returns-2 c =
 
 returns-3 : tie.Need-returns-3
 returns-3 c =
-    let the-opened = c .before .before .before .before .before .before .before .before .before .before .before .before .opened in
-    let the-plan = c .before .before .before .before .before .before .before .before .before .before .plan in
-    let the-owner = c .before .before .before .before .before .before .before .before .has-owner in
-    let the-if1 = c .before .before .before .before .before .before .before .if1 in
+    let the-opened = c .before .before .before .before .before .before .before .before .before .before .before .opened in
+    let the-plan = c .before .before .before .before .before .before .before .before .before .plan in
+    let the-owner = c .before .before .before .before .before .before .before .has-owner in
+    let the-if1 = c .before .before .before .before .before .before .if1 in
     let the-retract = c .before .before .before .before .retract in
     let the-told = c .enum-told in
     retract-bad _ _ (the-opened .ensures) (the-plan .given .1) (the-owner .ensures) (not-false _ (the-if1 .left)) (the-retract .ensures) (the-told .given .1)
 
 returns-4 : tie.Need-returns-4
 returns-4 c =
-    let the-opened = c .before .before .before .before .before .before .before .before .before .before .before .before .opened in
-    let the-plan = c .before .before .before .before .before .before .before .before .before .before .plan in
-    let the-owner = c .before .before .before .before .before .before .before .before .has-owner in
-    let the-if1 = c .before .before .before .before .before .before .before .if1 in
+    let the-opened = c .before .before .before .before .before .before .before .before .before .before .before .opened in
+    let the-plan = c .before .before .before .before .before .before .before .before .before .plan in
+    let the-owner = c .before .before .before .before .before .before .before .has-owner in
+    let the-if1 = c .before .before .before .before .before .before .if1 in
     let the-retract = c .before .before .before .before .retract in
     let the-told = c .enum-told2 in
     retract-waits _ _ (the-opened .ensures) (the-plan .given .1) (the-owner .ensures) (not-false _ (the-if1 .left)) (the-retract .ensures) (the-told .given .1)
@@ -93,7 +82,6 @@ retract-spec =
     returns
     slice-relend-prefix-retract
     slice-aggregate-retract
-    cast-retract
     retract-requires
     (λ c. search needs)
     (λ c. search needs)

@@ -6,13 +6,10 @@ use Rattle.stores.proofs.score.assignments.Statement.{statement}
 use Rattle.stores.proofs.score.assignments.Tie as tie
 
 abbrev Inv-loop : tie.InvT-loop
-Inv-loop r n sum₀ i₀ sum i = Counting r n sum i
+Inv-loop a n sum₀ i₀ sum i = Counting a n sum i
 
 abbrev μ-loop : tie.MeasureT-loop
-μ-loop r n sum₀ i₀ sum i = n - i
-
-loop-holds : tie.Need-loop-holds Inv-loop μ-loop
-loop-holds c = count-none _ _
+μ-loop a n sum₀ i₀ sum i = n - i
 
 loop-again : tie.Need-loop-again Inv-loop μ-loop
 loop-again c =
@@ -33,8 +30,7 @@ assignments-spec =
     (tie.spec
     Inv-loop
     μ-loop
-    loop-holds
-    (λ c. search needs)
+    (λ c. count-none _ _)
     (λ c. search needs)
     (λ c. search needs)
     (λ c κs. search needs)

@@ -34,7 +34,7 @@ returns-2 c =
     let the-plan = c .before .before .before .before .before .plan in
     let the-score-of = c .before .before .before .score-of in
     let the-r2 = c .before .r2 in
-    score-bad _ (the-opened .ensures) (the-plan .given .1) (the-score-of .ensures .is) (the-r2 .given .1)
+    score-bad _ (the-opened .ensures) (the-plan .given .1) (the-score-of .ensures) (the-r2 .given .1)
 
 returns-3 : tie.Need-returns-3
 returns-3 c =
@@ -43,7 +43,7 @@ returns-3 c =
     let the-score-of = c .before .before .before .before .score-of in
     let the-s = c .before .before .s in
     let the-match-count = c .match-count in
-    score-is _ (the-opened .ensures) (the-plan .given .1) (the-score-of .ensures .is) (the-s .given .1) (the-match-count .ensures)
+    score-is _ (the-opened .ensures) (the-plan .given .1) (the-score-of .ensures) (the-s .given .1) (the-match-count .ensures)
 
 pub score-spec : {M : Type 1} → statement M
 score-spec =

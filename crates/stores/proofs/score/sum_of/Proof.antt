@@ -1,5 +1,6 @@
 -- `sum_of`: what is still to sum, and what is summed, make the whole. Assumes nothing.
 use Prim.Native.Nat.{_-_}
+use lib.ListN.{length}
 use Rattle.stores.proofs.Summing.{Summing, sum-none, sum-turn, sum-done}
 use native.Mathlib.Omega.{arith}
 use borrow.Author.Needs.{needs}
@@ -7,15 +8,10 @@ use Rattle.stores.proofs.score.sum_of.Statement.{statement}
 use Rattle.stores.proofs.score.sum_of.Tie as tie
 
 abbrev Inv-loop : tie.InvT-loop
-Inv-loop r f t sum₀ i₀ sum i = Summing r f t sum i
+Inv-loop s sum₀ i₀ sum i = Summing s sum i
 
 abbrev μ-loop : tie.MeasureT-loop
-μ-loop r f t sum₀ i₀ sum i = t - i
-
-loop-holds : tie.Need-loop-holds Inv-loop μ-loop
-loop-holds c =
-    let start = c in
-    sum-none _ _ _ (start .pre .0)
+μ-loop s sum₀ i₀ sum i = length s - i
 
 cast-sum : tie.Need-cast-sum Inv-loop μ-loop
 cast-sum c =
@@ -27,6 +23,7 @@ add-sum : tie.Need-add-sum Inv-loop μ-loop
 add-sum c =
     let the-shared-slice-known = c .shared-slice-known in
     let the-loop = c .before .before .loop in
+    let few = the-loop .inv .few in
     omega (arith, the-shared-slice-known .given (the-loop .i))
 
 loop-again : tie.Need-loop-again Inv-loop μ-loop
@@ -34,15 +31,8 @@ loop-again c =
     let the-shared-slice-known = c .shared-slice-known in
     let the-loop = c .before .before .loop in
     let the-loop-test = c .before .loop-test in
-    let start = c .before .before .before in
     let word = the-shared-slice-known .given (the-loop .i) in
-    sum-turn (the-loop .inv) (the-loop-test .taken) (start .pre .1) (omega arith)
-
-returns : tie.Need-returns Inv-loop μ-loop
-returns c =
-    let the-loop = c .before .loop in
-    let the-loop-test = c .loop-test in
-    sum-done (the-loop .inv) (the-loop-test .left)
+    sum-turn (the-loop .inv) (the-loop-test .taken) (omega arith)
 
 pub sum-of-spec : {M : Type 1} → statement M
 sum-of-spec =
@@ -50,7 +40,7 @@ sum-of-spec =
     (tie.spec
     Inv-loop
     μ-loop
-    loop-holds
+    (λ c. sum-none _)
     (λ c. search needs)
     (λ c. search needs)
     cast-sum
@@ -58,4 +48,4 @@ sum-of-spec =
     (λ c. search needs)
     (λ c. search needs)
     loop-again
-    returns)
+    (λ c. search (needs, sum-done)))

@@ -1,3 +1,0 @@
--- The definitions that the contracts of `bulk` cite. Assumes nothing.
-pub mod Fixed
-pub mod Drafting

@@ -1,2 +1,0 @@
-// The fixed list's edges, written all at once.
-pub mod bulk;

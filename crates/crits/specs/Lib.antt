@@ -1,2 +1,0 @@
--- What the contracts of `crits` cite. Assumes nothing.
-pub mod Answers

@@ -1,2 +1,0 @@
-// `crit`: the critical blocks of all owners, printed.
-pub mod critical;

@@ -1,2 +1,0 @@
--- What the contract of `finds` cites. Assumes nothing.
-pub mod Finds

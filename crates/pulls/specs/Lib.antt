@@ -1,3 +1,0 @@
--- What the contracts of `pulls` cite. Assumes nothing.
-pub mod Pulls
-pub mod Fulls

@@ -1,3 +1,0 @@
--- What the contracts of `runs` cite. Assumes nothing.
-pub mod Arcs
-pub mod Overs

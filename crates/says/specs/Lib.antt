@@ -1,2 +1,0 @@
--- What the printed lines are. Assumes nothing.
-pub mod Prints

@@ -1,4 +1,0 @@
--- Laws that belong to no one function. Assumes nothing.
-pub mod Lowed
-pub mod Distanced
-pub mod Cycled

@@ -1,3 +1,0 @@
--- What the searches promise. Assumes nothing.
-pub mod Lowests
-pub mod Cycles

@@ -1,0 +1,5 @@
+-- Laws. Assumes nothing.
+pub mod Distanced
+pub mod Cycled
+pub mod Lowed
+pub mod Unique

@@ -1,4 +1,0 @@
--- Laws that belong to no one function. Assumes nothing.
-pub mod Laws
-pub mod Writes
-pub mod Writing

@@ -1,2 +1,0 @@
--- What the contracts of `walks` cite. Assumes nothing.
-pub mod Walks

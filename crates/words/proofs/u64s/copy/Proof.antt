@@ -1,0 +1,30 @@
+use Prim.Native.Nat.{_-_}
+use lib.ListN.{take}
+use Rattle.words.proofs.Writes.{Copying, copy-none, take-done, take-next}
+use borrow.Author.Needs.{needs}
+use Rattle.words.proofs.u64s.copy.Statement.{statement}
+use Rattle.words.proofs.u64s.copy.Tie as tie
+
+abbrev Inv-loop : tie.InvT-loop
+Inv-loop a₀ at s k i₀ a i = Copying a₀ at (take k s) a i
+
+abbrev μ-loop : tie.MeasureT-loop
+μ-loop a₀ at s k i₀ a i = k - i
+
+pub copy-spec : {M : Type 1} → statement M
+copy-spec =
+    tie.close
+    (tie.spec
+    Inv-loop
+    μ-loop
+    (λ c. search copy-none)
+    (λ c. search needs)
+    (λ c. search needs)
+    (λ c. search needs)
+    (λ c. search needs)
+    (λ c. search needs)
+    (λ c. search needs)
+    (λ c. search needs)
+    (λ c. search take-next)
+    (λ c. search needs)
+    (λ c. search take-done))
