@@ -12,14 +12,14 @@ use rules::{Block, Plan, Refusal};
 use stores::header::{Header, broad, opened};
 use times::{is_cyclic, makespan};
 
-#[derive(Drop)]
+#[derive(Clone, Copy)]
 pub enum Blocked {
     Are(usize),
     Refused(Refusal),
 }
 
 // What a search found: the critical jobs, where to go on from, how many blocks there are, and what is answered.
-#[derive(Drop)]
+#[derive(Clone, Copy)]
 pub struct Found {
     crit: [u8; Plan::JOBS],
     pub spot: Spot,
@@ -28,7 +28,7 @@ pub struct Found {
 }
 
 // A block, with the place of its owner in the list and the place behind it, where the search goes on.
-#[derive(Drop)]
+#[derive(Clone, Copy)]
 pub struct Spot {
     pub block: Block,
     pub(crate) owner: usize,

@@ -1,5 +1,7 @@
 // Layer 1: the edges between the jobs, with a count each, in one lent slice of five tables. Words that make no sense are answered by `Bad`
 // where a table would be written, and by nothing where one is read.
+#![tactic(auto)]
+
 pub mod fixed;
 pub mod lists;
 mod spans;
@@ -28,14 +30,14 @@ const TAIL_STARTS: usize = COUNTS + ROOM;
 
 const TAILS: usize = TAIL_STARTS + STARTS;
 
-#[derive(Drop)]
+#[derive(Clone, Copy)]
 pub enum Added {
     Appeared,
     Counted,
     Bad,
 }
 
-#[derive(Drop)]
+#[derive(Clone, Copy)]
 pub enum Removed {
     Vanished,
     Lessened,
@@ -44,7 +46,7 @@ pub enum Removed {
 }
 
 // Where a number stands in a row that ends at the second place, or, where it does not stand there, the end.
-#[derive(Drop)]
+#[derive(Clone, Copy)]
 enum Place {
     At(usize, usize),
     Nowhere(usize),

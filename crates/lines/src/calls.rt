@@ -21,7 +21,7 @@ use text::fields::narrow;
 use text::vocabulary::Word;
 
 // What a line comes to: how many bytes it answers.
-#[derive(Drop)]
+#[derive(Clone, Copy)]
 pub enum Called {
     Next(usize),
     Bad,

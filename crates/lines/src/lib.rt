@@ -1,4 +1,6 @@
 // The program's lines as calls: those up to `go` fill tables, and each behind it is a call of the library, and answers.
+#![tactic(auto)]
+
 pub mod calls;
 pub mod critical;
 pub mod goes;

@@ -7,7 +7,7 @@ use crate::steps::{Outcome, Stage, Typed, step};
 use text::ends::find;
 
 // What the lines come to: a plan, with the place behind `go` and the number of its line; a line that doesn't fit; or the input ends before `go`.
-#[derive(Drop)]
+#[derive(Clone, Copy)]
 pub enum Gathered {
     Go(Typed, usize, u64),
     Bad(u64),

@@ -10,7 +10,7 @@ use text::parses::{Line, parse};
 use text::vocabulary::Word;
 
 // Which lines may come now.
-#[derive(Drop)]
+#[derive(Clone, Copy)]
 pub enum Stage {
     Plan,
     Durations,
@@ -18,7 +18,7 @@ pub enum Stage {
 }
 
 // The numbers of `plan` as typed, and how many durations and fixed pairs stand in front of their tables.
-#[derive(Drop)]
+#[derive(Clone, Copy)]
 pub struct Typed {
     pub jobs: u64,
     pub owners: u64,
@@ -27,7 +27,7 @@ pub struct Typed {
 }
 
 // What a line comes to.
-#[derive(Drop)]
+#[derive(Clone, Copy)]
 pub enum Outcome {
     Next(Stage, Typed),
     Go,

@@ -12,7 +12,7 @@ use text::ends::find;
 use text::parses::{Line, parse};
 
 // The place of the next line, and how many bytes go out before it.
-#[derive(Drop)]
+#[derive(Clone, Copy)]
 pub struct Turn {
     pub next: usize,
     pub bytes: usize,

@@ -15,14 +15,14 @@ use stores::header::{Header, broad, opened};
 use times::is_cyclic;
 use words::widen;
 
-#[derive(Drop)]
+#[derive(Clone, Copy)]
 pub enum Moved {
     // The route's length, the quick verdict, the full verdict.
     Is(usize, bool, bool),
     Refused(Refusal),
 }
 
-#[derive(Drop)]
+#[derive(Clone, Copy)]
 pub enum Begun {
     // The counts of the plan, and the length of the owner's route.
     Is(Plan, usize),
@@ -122,7 +122,7 @@ fn finish(
 }
 
 // A move, as the numbers that it is asked with; the list of a permutation stands beside it.
-#[derive(Drop)]
+#[derive(Clone, Copy)]
 enum Asked {
     One(u32, u32),
     Range(u32, u32, u32),

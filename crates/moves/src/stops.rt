@@ -9,7 +9,7 @@ use routes::rows::{is_broken, stops};
 use rules::Owner;
 use words::wide;
 
-#[derive(Drop)]
+#[derive(Clone, Copy)]
 pub enum Route {
     Of(usize),
     Broken,

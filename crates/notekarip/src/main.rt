@@ -1,5 +1,7 @@
 // Layer 5, the program: reads document 01's lines from standard input and answers each on standard output.
 // The lines up to `go` only fill tables; `go` loads them, and each later line is a call (crate lines).
+#![tactic(auto)]
+
 ghost use Rattle.std.specs.Prelude.{◌≤◌, length};
 ghost use Rattle.lines.specs.Sizes.{input_limit};
 ghost use Rattle.lines.specs.Steps.{Within};

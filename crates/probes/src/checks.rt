@@ -11,7 +11,7 @@ use crate::quick::turns;
 use crate::sets::{turned_off, turned_on};
 
 // The two verdicts.
-#[derive(Drop)]
+#[derive(Clone, Copy)]
 pub struct Checked {
     pub quick: bool,
     pub full: bool,

@@ -8,7 +8,7 @@ use crate::chain::{HEADS, NEXTS};
 use crate::view::is_on;
 use words::wide;
 
-#[derive(Drop)]
+#[derive(Clone, Copy)]
 pub enum Head {
     // A job; the place of the row and the link of the set from which to go on.
     To(u16, usize, usize),

@@ -1,4 +1,6 @@
 // Layer 4: which edges are on after a move, seen through a view of the live lists, and both checks over them. Nothing is copied.
+#![tactic(auto)]
+
 mod chain;
 pub mod checks;
 mod fixed;

@@ -5,7 +5,7 @@ ghost use Rattle.probes.specs.Seen.{Seeable, stays_at};
 use crate::chain::holds;
 
 // The row of one job's live edges, and the set of those that are off.
-#[derive(Drop)]
+#[derive(Clone, Copy)]
 pub struct View<'a, 'b> {
     pub live: &'a [u16],
     pub off: &'b [u16],

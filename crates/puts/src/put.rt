@@ -113,7 +113,7 @@ fn crowded(r: &[u16], owner: Owner, valid: usize) -> bool
 }
 
 // What a put came to: how many heads appeared, vanished through the owner, and vanished through waiting owners.
-#[derive(Drop)]
+#[derive(Clone, Copy)]
 pub enum Outcome {
     Done(usize, usize, usize),
     NoRoom,

@@ -19,7 +19,7 @@ use stores::header::broad;
 use stores::score::{Scored, score_of};
 use times::settle::anew;
 
-#[derive(Drop)]
+#[derive(Clone, Copy)]
 pub enum Checked {
     Fine,
     Refused(Refusal),

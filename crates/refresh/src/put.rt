@@ -13,13 +13,13 @@ use stores::header::{Header, broad, opened};
 use stores::score::{Scored, score_of};
 use times::settle::refresh;
 
-#[derive(Drop)]
+#[derive(Clone, Copy)]
 enum Followed {
     Is(Report),
     Refused(Refusal),
 }
 
-#[derive(Drop)]
+#[derive(Clone, Copy)]
 pub enum Changed {
     By(Score, Report),
     Refused(Refusal),

@@ -12,7 +12,7 @@ use shown::lowests::lowest_up;
 use stores::header::{Header, broad, opened};
 use words::widen;
 
-#[derive(Drop)]
+#[derive(Clone, Copy)]
 pub enum Judged {
     LineUp(usize),
     Cycle(usize),

@@ -6,7 +6,7 @@ use refresh::reset::reset;
 use refresh::retract::retract;
 
 // What a line is, by its first letters.
-#[derive(Drop)]
+#[derive(Clone, Copy)]
 enum Ask {
     Load,
     Reset,

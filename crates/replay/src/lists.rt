@@ -63,7 +63,7 @@ pub(crate) fn get(list: &[i64], i: usize) -> i64 {
     if i < list.len() { list[i] } else { 0 }
 }
 
-#[derive(Drop)]
+#[derive(Clone, Copy)]
 enum Read {
     Is(i64, usize),
     Ends,

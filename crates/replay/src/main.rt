@@ -1,4 +1,6 @@
 // Runs the recorded calls through the library and compares every answer: a line for each plan, and a total.
+#![tactic(auto)]
+
 mod answers;
 mod arguments;
 mod calls;

@@ -6,7 +6,7 @@ use moves::moved::{Moved, list_change, permutation, sublist_change, sublist_swap
 use rules::Plan;
 
 // Which of the four.
-#[derive(Drop)]
+#[derive(Clone, Copy)]
 pub(crate) enum Kind {
     Change,
     Sublist,

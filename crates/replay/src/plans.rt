@@ -7,7 +7,7 @@ use rules::Plan;
 use text::ends::{End, line_end};
 
 // Calls, answers that differ, and the place of the next plan.
-#[derive(Drop)]
+#[derive(Clone, Copy)]
 pub(crate) struct Told {
     pub calls: u64,
     pub differ: u64,
@@ -15,7 +15,7 @@ pub(crate) struct Told {
 }
 
 // What a line comes to: a call with so many numbers of an answer, an answer that agrees or differs, or nothing.
-#[derive(Drop)]
+#[derive(Clone, Copy)]
 enum Came {
     Call(usize),
     Agrees,

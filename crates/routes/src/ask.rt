@@ -4,7 +4,7 @@ ghost use Rattle.routes.specs.Asks.{ask_of};
 
 use rules::{Owner, Plan};
 
-#[derive(Drop)]
+#[derive(Clone, Copy)]
 pub enum Ask {
     Fine,
     NoSuchOwner,

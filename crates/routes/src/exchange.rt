@@ -9,7 +9,7 @@ use edges::{Added, Removed};
 use rules::{Job, Plan};
 
 // How far the heads of edges that appeared or vanished reach.
-#[derive(Drop)]
+#[derive(Clone, Copy)]
 pub enum Heads {
     Upto(usize),
     Bad,
@@ -64,7 +64,7 @@ fn turn_all(e: &mut [u16], s: &[u32], more: bool, heads: &mut [u16], at: usize) 
 }
 
 // How far the heads of the edges that vanished reach, and of those that appeared.
-#[derive(Drop)]
+#[derive(Clone, Copy)]
 pub enum Swap {
     Done(usize, usize),
     Bad,

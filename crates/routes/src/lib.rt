@@ -7,6 +7,8 @@
 //   WAITERS    how many owners wait
 //   WAITING    who waits, in the order they began to, then zeros
 // Only this crate knows these places; the others are handed rows and answers. Any contents are safe.
+#![tactic(auto)]
+
 pub mod ask;
 mod counts;
 mod difference;

@@ -7,7 +7,7 @@ ghost use Rattle.routes.specs.Snapped.{strayed, Snapped};
 use rules::{Job, Owner, Plan};
 
 // A route's valid entries, invalid entries and violations.
-#[derive(Drop)]
+#[derive(Clone, Copy)]
 pub struct Snap {
     pub valid: usize,
     pub invalid: usize,

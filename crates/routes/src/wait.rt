@@ -64,7 +64,7 @@ fn has(row: &[u16], x: u16) -> bool
 }
 
 // `Bad` where the words make no sense.
-#[derive(Drop)]
+#[derive(Clone, Copy)]
 pub enum Done {
     Fine,
     Bad,

@@ -1,4 +1,6 @@
 // The words of document 01 as types: job, owner, plan, score, refusal, report, block.
+#![tactic(auto)]
+
 ghost use Rattle.std.specs.Prelude.{◌≡◌, ◌≤◌, ltb};
 ghost use Rattle.rules.specs.Sizes.{is_short, fits_sizes, is_long, most_entries};
 ghost use Rattle.rules.specs.Refusals.{number_of};
@@ -6,15 +8,15 @@ ghost use Rattle.rules.specs.Scores.{score_of, minus_of, matches_of, Within, lim
 ghost use Rattle.rules.specs.Reports.{visits_of};
 
 // A job's number. A put cannot take a job for an owner.
-#[derive(Drop)]
+#[derive(Clone, Copy)]
 pub struct Job(pub u32);
 
 // An owner's number.
-#[derive(Drop)]
+#[derive(Clone, Copy)]
 pub struct Owner(pub u32);
 
 // A plan's counts: jobs, owners and fixed pairs. The sizes are constants that belong to it.
-#[derive(Drop)]
+#[derive(Clone, Copy)]
 pub struct Plan {
     pub jobs: u32,
     pub owners: u32,
@@ -108,7 +110,7 @@ impl Plan {
 }
 
 // Minus the hard penalty, then minus the makespan; or a difference of two such.
-#[derive(Drop)]
+#[derive(Clone, Copy)]
 pub struct Score {
     pub hard: i64,
     pub soft: i64,
@@ -155,7 +157,7 @@ impl Score {
 }
 
 // Why a call is refused.
-#[derive(Drop)]
+#[derive(Clone, Copy)]
 pub enum Refusal {
     NotLoaded,
     BadSize,
@@ -194,7 +196,7 @@ impl Refusal {
 }
 
 // What a put did to the starts.
-#[derive(Drop)]
+#[derive(Clone, Copy)]
 pub enum Report {
     Skipped,
     Full,
@@ -218,7 +220,7 @@ impl Report {
 
 // A critical block: places first to last, inclusive, of an owner's route of this length. A caller in C reads it.
 #[repr(C)]
-#[derive(Drop)]
+#[derive(Clone, Copy)]
 pub struct Block {
     pub owner: u32,
     pub first: u32,

@@ -18,7 +18,7 @@ const HEADS: usize = 32;
 const STEPS: usize = 256;
 
 // No way back, and so many jobs may still be passed; a way back; too many jobs passed to go on.
-#[derive(Drop)]
+#[derive(Clone, Copy)]
 enum Turned {
     Free(usize),
     Back,

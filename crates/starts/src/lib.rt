@@ -1,4 +1,6 @@
 // Starts over the edges' rows: a line-up, all starts anew along it, the walk that mends them, and the verdict by them. Any contents are safe.
+#![tactic(auto)]
+
 pub mod backs;
 pub mod lineup;
 mod queues;

@@ -5,7 +5,7 @@ ghost use Rattle.rules.specs.Sizes.{base_length};
 
 use rules::{Plan, Refusal};
 
-#[derive(Drop)]
+#[derive(Clone, Copy)]
 pub enum Header {
     Is(Plan),
     Refused(Refusal),

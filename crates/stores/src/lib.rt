@@ -4,6 +4,8 @@
 //   edges  u16   layer 1
 //   routes u16   layer 2
 //   times  u64   0 cyclic, 1 makespan; 2.. starts[512]
+#![tactic(auto)]
+
 pub mod base;
 pub mod header;
 pub mod reported;

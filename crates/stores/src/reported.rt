@@ -8,7 +8,7 @@ use crate::header::{Header, broad, opened};
 use rules::Refusal;
 use words::u64s::copy;
 
-#[derive(Drop)]
+#[derive(Clone, Copy)]
 pub enum Started {
     All(usize),
     Refused(Refusal),

@@ -5,7 +5,7 @@ ghost use Rattle.stores.specs.Says.{says_ended};
 
 use rules::{Plan, Refusal};
 
-#[derive(Drop)]
+#[derive(Clone, Copy)]
 pub enum Ended {
     Fine,
     Refused(Refusal),

@@ -13,13 +13,13 @@ use routes::rows::{assigned, faults};
 use rules::{Plan, Refusal, Score};
 use times::{is_cyclic, makespan};
 
-#[derive(Drop)]
+#[derive(Clone, Copy)]
 pub enum Scored {
     Is(Score),
     Refused(Refusal),
 }
 
-#[derive(Drop)]
+#[derive(Clone, Copy)]
 pub enum Counted {
     Is(Score, u64),
     Refused(Refusal),

@@ -1,7 +1,7 @@
 // Where a line ends.
 ghost use Rattle.text.specs.Reads.{Searched, Ends};
 
-#[derive(Drop)]
+#[derive(Clone, Copy)]
 pub enum End {
     At(usize),
     Nothing,

@@ -3,13 +3,13 @@ ghost use Rattle.std.specs.Prelude.{◌≡◌, ◌++◌, ◌+◌, ◌*◌, ◌�
 ghost use Rattle.text.specs.Grammar.{digits_of, fitted};
 ghost use Rattle.text.specs.Reads.{Digit, Reads, Gathers};
 
-#[derive(Drop)]
+#[derive(Clone, Copy)]
 pub enum Field {
     Is(u64, usize),
     Bad,
 }
 
-#[derive(Drop)]
+#[derive(Clone, Copy)]
 pub enum Fields {
     Count(usize),
     Bad,

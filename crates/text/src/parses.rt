@@ -5,7 +5,7 @@ ghost use Rattle.text.specs.Reads.{Parses};
 use crate::fields::{Fields, numbers};
 use crate::vocabulary::{First, Word, first_of, fits, word_at};
 
-#[derive(Drop)]
+#[derive(Clone, Copy)]
 pub enum Line {
     Is(Word, usize),
     Bad,

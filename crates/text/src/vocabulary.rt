@@ -6,7 +6,7 @@ ghost use Rattle.text.specs.Reads.{Names, Words};
 
 use crate::ends::find;
 
-#[derive(Drop)]
+#[derive(Clone, Copy)]
 pub enum Word {
     Plan,
     Dur,
@@ -19,7 +19,7 @@ pub enum Word {
 }
 
 // A word's row: the word, its name and spaces behind it, how many numbers follow it, and whether more may.
-#[derive(Drop)]
+#[derive(Clone, Copy)]
 pub struct Row(Word, [u8; NAME], usize, bool);
 
 // A name has fewer bytes.
@@ -86,7 +86,7 @@ fn begins(line: &[u8], name: &[u8]) -> bool
 }
 
 // What a line begins with: the row of a word, and the length of the word's name.
-#[derive(Drop)]
+#[derive(Clone, Copy)]
 pub enum First {
     Is(usize, usize),
     Bad,

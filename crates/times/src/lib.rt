@@ -1,4 +1,6 @@
 // The times of a plan, in one lent slice: cyclic or not, the makespan, the starts. Only this crate knows their places.
+#![tactic(auto)]
+
 pub mod settle;
 
 ghost use Rattle.std.specs.Prelude.{◌≡◌, ◌≤◌, length};

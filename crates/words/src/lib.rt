@@ -1,5 +1,7 @@
 // The leaves: words in a lent slice, of 16 bits here, of 32 and 64 in the modules. Each function has the exact contents after it as its
 // contract.
+#![tactic(auto)]
+
 ghost use Rattle.std.specs.Prelude.{◌≡◌, ◌+◌, ◌-◌, ◌<◌, ◌≤◌, length, replicate, take};
 ghost use Rattle.std.proofs.Math.Seq.{slice};
 ghost use Rattle.std.proofs.lemmas.List.Edits.{sets};
@@ -9,7 +11,7 @@ pub mod u32s;
 pub mod u64s;
 
 // What a search finds.
-#[derive(Drop)]
+#[derive(Clone, Copy)]
 pub enum Found {
     At(usize),
     Nothing,
