@@ -38,13 +38,13 @@ minus_fits {x} {y} p q = record { sfits = omega (arith, mag_minus x y) }
 
 -- what the machine reads back from a number's bits
 pub back_is : {z : ℤ} → Mild z → to_z w64 (of_z w64 z) ≡ z
-back_is p = to_z-of_z (record { sfits = omega arith })
+back_is p = to_z-of_z {w = w64} (record { sfits = omega arith })
 
 pub sub_fits : {x y : ℤ} → Mild x → Mild y → SFits w64 (to_z w64 (of_z w64 x) -ℤ to_z w64 (of_z w64 y))
 sub_fits p q = rw (back_is p, back_is q) (minus_fits p q)
 
 pub sub_is : {x y : ℤ} → Mild x → Mild y → to_z w64 (of_z w64 (to_z w64 (of_z w64 x) -ℤ to_z w64 (of_z w64 y))) ≡ x -ℤ y
-sub_is p q = rw (back_is p, back_is q) (to_z-of_z (minus_fits p q))
+sub_is p q = rw (back_is p, back_is q) (to_z-of_z {w = w64} (minus_fits p q))
 
 mild_zero : Mild (pos 0)
 mild_zero = record { far = omega arith }

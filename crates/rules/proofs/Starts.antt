@@ -28,8 +28,8 @@ module _ (n : ℕ) (E : Graph) (f d : ℕ → ℕ) where
   start_ub zero h here = omega arith
   start_ub (suc m) h here = omega arith
   start_ub zero h (along hu e p) = absurd (not-suc-le-zero h)
-  start_ub (suc m) h (along {u = u} {v = v} hu e p) =
-      let a = start_ub m (omega arith) p in
+  start_ub (suc m) h (along {k = k} {u = u} {v = v} hu e p) =
+      let a = start_ub {k = k} m (omega arith) p in
       let b = greatest_ub n (λ u. E u v) (λ u. start n E f d m u + d u) u hu e in
       omega arith
 

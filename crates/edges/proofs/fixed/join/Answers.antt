@@ -1,0 +1,18 @@
+use borrow.Author.Rules.{rules}
+use Rattle.edges.proofs.Drafts.{comes, counts_more, seen_fits, seen_low}
+use Rattle.edges.proofs.fixed.join.Goals as goal
+
+pub times-n-requires : goal.times-n-requires
+times-n-requires c = search (rules, seen_low)
+
+pub overflow_add-n : goal.overflow_add-n
+overflow_add-n c = search seen_fits
+
+pub retime-requires : goal.retime-requires
+retime-requires c = search (rules, seen_low)
+
+pub returns-in-At : goal.returns-in-At
+returns-in-At c = search counts_more
+
+pub returns-in-Nothing : goal.returns-in-Nothing
+returns-in-Nothing c = search comes

@@ -1,0 +1,62 @@
+use Rattle.moves.proofs.Promised.{moved_finished, moved_positions, moved_refused, ready}
+use Rattle.stores.proofs.Openings.{open_is}
+use borrow.Author.Tests.{not-false, not-true}
+use lib.ListN.{length-take}
+use mathlib.Core.Path.{refl, ◌∙◌}
+use native.Mathlib.Omega.{arith}
+use Rattle.moves.proofs.moved.answer.Goals as goal
+
+-- `answer`. Assumes nothing.
+
+pub place-requires : goal.place-requires
+place-requires c =
+    let the_begin = c.begin in
+    let the_plan = c.plan-1 in
+    (the_begin.auto.1.1.1.1.1.1.0 ∙ refl, refl, (ready the_begin.ensures the_plan.given.1).few)
+
+pub returns-then-not-place : goal.returns-then-not-place
+returns-then-not-place c =
+    let the_begin = c.begin in
+    let the_plan = c.plan-1 in
+    let the_place = c.place in
+    let the_if1 = c.if-not-place in
+    moved_positions _ _ _ _ the_begin.ensures the_plan.given.1 the_place.ensures (not-true _ the_if1.true)
+
+pub slice_bounds-finish-end : goal.slice_bounds-finish-end
+slice_bounds-finish-end c =
+    let the_begin = c.begin in
+    let the_plan = c.plan-1 in
+    let o = open_is _ _ _ (ready the_begin.ensures the_plan.given.1).opens in let l = o.long.edges in simp length-take (omega arith)
+
+pub finish-requires : goal.finish-requires
+finish-requires c =
+    let the_begin = c.begin in
+    let the_plan = c.plan-1 in
+    let the_place = c.place in
+    let r = ready the_begin.ensures the_plan.given.1 in
+    let o = open_is _ _ _ r.opens in
+    let l = o.long.edges in (
+      o.long.base,
+      simp length-take (omega arith),
+      o.long.times,
+      o.jobs,
+      o.fixed,
+      the_begin.auto.1.1.1.1.1.1.0 ∙ refl,
+      the_place.auto.1.1.1.1.0 ∙ refl,
+      r.few,
+    )
+
+pub returns-in-Refused : goal.returns-in-Refused
+returns-in-Refused c =
+    let the_begin = c.begin in
+    let the_r = c.r-1 in
+    moved_refused _ _ _ _ the_begin.ensures the_r.given.1
+
+pub returns-else-not-place : goal.returns-else-not-place
+returns-else-not-place c =
+    let the_begin = c.begin in
+    let the_plan = c.plan-1 in
+    let the_place = c.place in
+    let the_if1 = c.if-not-place in
+    let the_finish = c.finish in
+    moved_finished _ _ _ _ the_begin.ensures the_plan.given.1 the_place.ensures (not-false _ the_if1.false) the_finish.ensures

@@ -1,0 +1,15 @@
+use Rattle.moves.proofs.moved.place.Goals as goal
+
+-- `place`. Assumes nothing.
+
+pub returns-in-One : goal.returns-in-One
+returns-in-One c = rw c.asked-1.given.1 c.place_one.ensures
+
+pub returns-in-Range : goal.returns-in-Range
+returns-in-Range c = rw c.asked-in-Range-1.given.1 c.place_range.ensures
+
+pub returns-in-Swap : goal.returns-in-Swap
+returns-in-Swap c = rw c.asked-in-Swap-1.given.1 c.place_swap.ensures
+
+pub returns-in-Order : goal.returns-in-Order
+returns-in-Order c = rw c.asked-in-Order-1.given.1 c.place_order.ensures

@@ -1,0 +1,9 @@
+use Rattle.moves.proofs.Laid.{swap_laid}
+use Rattle.moves.proofs.reroute.sublist_swap.Goals as goal
+
+-- Five pieces, one behind the other. Assumes nothing.
+
+pub returns : goal.returns
+returns c =
+    swap_laid c.requires c.copy.ensures c.copy-2.ensures c.copy-3.ensures
+    c.copy-4.ensures c.copy-5.ensures

@@ -1,0 +1,12 @@
+use Rattle.std.proofs.Common.{◌≡◌, ◌-◌, length}
+use Rattle.rules.specs.Sizes.{most_entries}
+use Rattle.routes.proofs.Snaps.{Scan}
+use Rattle.routes.proofs.snap.snapshot.Given as goal
+
+abbrev pub invariant-loop-i : goal.invariant-loop-i
+invariant-loop-i l =
+    Scan l.entries l.expected l.initial.out l.plan.jobs l.owner.0 l.out l.valid l.invalid l.violations l.joined l.i
+    × (length l.out ≡ most_entries)
+
+abbrev pub decreases-loop-i : goal.decreases-loop-i
+decreases-loop-i l = length l.entries - l.i
