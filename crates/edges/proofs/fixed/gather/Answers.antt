@@ -2,6 +2,7 @@ use Prim.Native.Nat.{◌-◌}
 use mathlib.Core.Logic.{⊎_elim}
 use Rattle.edges.proofs.Gathers.{begins, e_same, ends, from_fits, going_as, ins_same, joined, out_same, passed_by, ready, tails_same}
 use Rattle.edges.proofs.fixed.gather.Goals as goal
+use Rattle.edges.proofs.fixed.gather.Goals.{then-v-n, else-v-n}
 
 pub loop-i-init : goal.loop-i-init
 loop-i-init c = search begins
@@ -14,14 +15,12 @@ join-t-requires c = search ready
 
 pub loop-i-preserved : goal.loop-i-preserved
 loop-i-preserved c =
-    let the_loop = c.loop-i in
-    let the_test = c.loop-i-test in
     let few = c.requires.1 in
-    ⊎_elim
-    (λ (i, _, _, _, _, _, j, _, _, _, _, _, _, _, _, e, tails, out, ins, t).
-    going_as few e tails out ins t (joined few the_loop.invariant the_test.true i.taken j.ensures))
-    (λ (i, e, tails, out, ins, t). going_as few e tails out ins t (passed_by few the_loop.invariant the_test.true i.left))
-    c.if-v-n.branch
+    elim c.if-v-n.branch [
+      then-v-n w ↦
+        going_as few w.e-is w.tails-is w.out-is w.ins-is w.t-is (joined few c.loop-i.invariant c.loop-i-test.true w.if-v-n.true w.join-t.ensures)
+    | else-v-n w ↦ going_as few w.e-is w.tails-is w.out-is w.ins-is w.t-is (passed_by few c.loop-i.invariant c.loop-i-test.true w.if-v-n.false)
+    ]
 
 pub shape_of-e : goal.shape_of-e
 shape_of-e c = search e_same
