@@ -1,5 +1,5 @@
 use Rattle.std.proofs.Common.{◌-◌, arith, length-set}
-use Rattle.routes.proofs.Matching.{matching}
+use Rattle.routes.proofs.Matching.{matching, matching_miss}
 use Rattle.routes.proofs.difference.differences.Goals as goal
 
 pub old-init : goal.old-init
@@ -54,7 +54,10 @@ pub old-smaller : goal.old-smaller
 old-smaller c = search matching
 
 pub old-preserved : goal.old-preserved
-old-preserved c = search matching
+old-preserved c =
+    let (_, _, a, k) = c.old.invariant in
+    let (_, _, e, s) = c.loop-j.invariant in
+    (search matching, search matching, search matching, matching_miss k s e c.seat_in.ensures (omega arith) c.loop-j-test.false)
 
 pub shape_of-old : goal.shape_of-old
 shape_of-old c = search matching

@@ -1,5 +1,5 @@
 use Rattle.std.proofs.Common.{◌-◌}
-use Rattle.routes.proofs.Sweeping.{sweeping}
+use Rattle.routes.proofs.Sweeping.{sweep_on, sweeping}
 use Rattle.routes.proofs.exchange.turn_all.Goals as goal
 
 pub loop-i-init : goal.loop-i-init
@@ -36,7 +36,8 @@ pub loop-i-smaller : goal.loop-i-smaller
 loop-i-smaller c = search sweeping
 
 pub loop-i-preserved : goal.loop-i-preserved
-loop-i-preserved c = search sweeping
+loop-i-preserved c =
+    (search sweeping, search sweeping, search sweeping, sweep_on c.loop-i.invariant.3 c.turn.ensures c.loop-i-test.true c.in-Upto.is)
 
 pub shape_of-e : goal.shape_of-e
 shape_of-e c = search sweeping

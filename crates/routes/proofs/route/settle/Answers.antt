@@ -7,4 +7,4 @@ returns c =
     let the_t = c.wide-t in
     let the_f = c.wide-f in
     settled_by _ _ _ _ _ _ c.args.r.now _ _ _ _ c.shift.ensures c.splice.ensures c.assign.ensures c.unassign.ensures
-    c.Shift-of.ensures the_f.ensures the_t.ensures the_n.ensures
+    c.shift_of.ensures the_f.ensures the_t.ensures the_n.ensures
