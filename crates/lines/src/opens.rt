@@ -15,8 +15,8 @@ pub enum Gathered {
 }
 
 pub fn gather(input: &[u8], durations: &mut [u64], from: &mut [u32], to: &mut [u32]) -> Gathered
-    requires input_len_bound { (length input.now ≤ input_limit) × (most_numbers ≤ length durations.old) }
-    requires most_fixes_in_bounds { (most_fixes ≤ length from.old) × (most_fixes ≤ length to.old) }
+    requires sizes { (length input.now ≤ input_limit) × (most_numbers ≤ length durations.old) }
+    requires room { (most_fixes ≤ length from.old) × (most_fixes ≤ length to.old) }
     ensures { ComesTo input.now result durations.new from.new to.new }
 {
     let mut stage = Stage::Plan;

@@ -90,8 +90,8 @@ fn dur_line(word: Word, numbers: &[u64], plan: Typed, durations: &mut [u64]) -> 
 
 // `fix A B` and `go` fit.
 fn fix_line(word: Word, numbers: &[u64], plan: Typed, from: &mut [u32], to: &mut [u32]) -> Outcome
-    requires numbers_value { fits_of word (length numbers.now) ≡ true }
-    requires fixed_in_bounds { (plan.fixed < length from.old) × (plan.fixed < length to.old) }
+    requires fits { fits_of word (length numbers.now) ≡ true }
+    requires room { (plan.fixed < length from.old) × (plan.fixed < length to.old) }
     ensures { Tied word numbers.now plan from.old to.old result from.new to.new }
 {
     let k = plan.fixed;
@@ -122,8 +122,8 @@ fn word_step(
     from: &mut [u32],
     to: &mut [u32],
 ) -> Outcome
-    requires numbers_value { (fits_of word (length numbers.now) ≡ true) × (length numbers.now ≤ length durations.old) }
-    requires fixed_in_bounds { (plan.fixed < length from.old) × (plan.fixed < length to.old) }
+    requires fits { (fits_of word (length numbers.now) ≡ true) × (length numbers.now ≤ length durations.old) }
+    requires room { (plan.fixed < length from.old) × (plan.fixed < length to.old) }
     ensures { Taken word numbers.now stage plan durations.old from.old to.old
         result durations.new from.new to.new }
 {
@@ -143,8 +143,8 @@ pub(crate) fn step(
     from: &mut [u32],
     to: &mut [u32],
 ) -> Outcome
-    requires line_len_bound { (length line.now ≤ input_limit) × (most_numbers ≤ length durations.old) }
-    requires fixed_in_bounds { (plan.fixed < length from.old) × (plan.fixed < length to.old) }
+    requires sizes { (length line.now ≤ input_limit) × (most_numbers ≤ length durations.old) }
+    requires room { (plan.fixed < length from.old) × (plan.fixed < length to.old) }
     ensures { LineTaken line.now stage plan durations.old from.old to.old
         result durations.new from.new to.new }
 {

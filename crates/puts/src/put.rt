@@ -23,8 +23,8 @@ fn swap_route(
     at: usize,
     came: &mut [u16],
 ) -> Swap
-    requires r_len { (length r.old ≡ routes_length) × (length e.old ≡ edges_length) × (length s.now ≤ most_entries) }
-    requires at_in_bounds { (at ≤ length went.old) × (length s.now ≤ length came.old) }
+    requires sizes { (length r.old ≡ routes_length) × (length e.old ≡ edges_length) × (length s.now ≤ most_entries) }
+    requires room { (at ≤ length went.old) × (length s.now ≤ length came.old) }
     ensures { RouteTurn r.old e.old owner.0 s.now invalid violated r.new e.new
         went.old went.new at came.new result }
 {
@@ -132,8 +132,8 @@ fn put_stops(
     went: &mut [u16],
     gone: &mut [u16],
 ) -> Outcome
-    requires r_len { (length r.old ≡ routes_length) × (length e.old ≡ edges_length) × (length s.now ≤ most_entries) }
-    requires most_entries_in_bounds { (most_entries ≤ length came.old) × (most_entries ≤ length went.old) × (most_entries ≤ length gone.old) }
+    requires sizes { (length r.old ≡ routes_length) × (length e.old ≡ edges_length) × (length s.now ≤ most_entries) }
+    requires room { (most_entries ≤ length came.old) × (most_entries ≤ length went.old) × (most_entries ≤ length gone.old) }
     ensures { StopsPut r.old e.old owner.0 s.now invalid violated r.new e.new
         came.old came.new went.old went.new gone.old gone.new result }
 {
@@ -159,8 +159,8 @@ pub fn put(
     went: &mut [u16],
     gone: &mut [u16],
 ) -> Outcome
-    requires r_len { (length r.old ≡ routes_length) × (length e.old ≡ edges_length) × (length entries.now ≤ most_entries) × (plan.jobs ≤ most_jobs) }
-    requires most_entries_in_bounds { (most_entries ≤ length came.old) × (most_entries ≤ length went.old) × (most_entries ≤ length gone.old) }
+    requires sizes { (length r.old ≡ routes_length) × (length e.old ≡ edges_length) × (length entries.now ≤ most_entries) × (plan.jobs ≤ most_jobs) }
+    requires room { (most_entries ≤ length came.old) × (most_entries ≤ length went.old) × (most_entries ≤ length gone.old) }
     ensures { PutPromised r.old e.old expected.now plan.jobs owner.0 entries.now
         r.new e.new came.old came.new went.old went.new
         gone.old gone.new result }

@@ -36,9 +36,9 @@ fn change(
     owner: Owner,
     entries: &[u32],
 ) -> Followed
-    requires base_length_in_bounds { (base_length ≤ length base.now) × (length spans.now ≡ spans_length) × (length edges.old ≡ edges_length) × (length routes.old ≡ routes_length)
+    requires sizes { (base_length ≤ length base.now) × (length spans.now ≡ spans_length) × (length edges.old ≡ edges_length) × (length routes.old ≡ routes_length)
         × (length times.old ≡ times_length) }
-    requires jobs_le_most_jobs { (plan.jobs ≤ most_jobs) × (owner.0 < most_owners) × (length entries.now ≤ most_entries) }
+    requires low { (plan.jobs ≤ most_jobs) × (owner.0 < most_owners) × (length entries.now ≤ most_entries) }
     ensures { Follows (slices base.now spans.now edges.old routes.old times.old)
         (slices base.now spans.now edges.new routes.new times.new)
         plan.jobs owner.0 entries.now result }
@@ -85,9 +85,9 @@ fn rescore(
     owner: Owner,
     entries: &[u32],
 ) -> Changed
-    requires base_length_in_bounds { (base_length ≤ length base.now) × (length spans.now ≡ spans_length) × (length edges.old ≡ edges_length) × (length routes.old ≡ routes_length)
+    requires sizes { (base_length ≤ length base.now) × (length spans.now ≡ spans_length) × (length edges.old ≡ edges_length) × (length routes.old ≡ routes_length)
         × (length times.old ≡ times_length) }
-    requires jobs_le_most_jobs { (plan.jobs ≤ most_jobs) × (owner.0 < most_owners) × (length entries.now ≤ most_entries) }
+    requires low { (plan.jobs ≤ most_jobs) × (owner.0 < most_owners) × (length entries.now ≤ most_entries) }
     ensures { Changes (slices base.now spans.now edges.old routes.old times.old)
         (slices base.now spans.now edges.new routes.new times.new)
         plan.jobs owner.0 entries.now result }

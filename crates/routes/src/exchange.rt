@@ -123,8 +123,8 @@ pub fn exchange(
     at: usize,
     came: &mut [u16],
 ) -> Swap
-    requires e_len { (length e.old ≡ edges_length) × (length old.now ≤ most_entries) × (length new.now ≤ most_entries) }
-    requires at_in_bounds { (at ≤ length went.old) × (length new.now ≤ length came.old) }
+    requires sizes { (length e.old ≡ edges_length) × (length old.now ≤ most_entries) × (length new.now ≤ most_entries) }
+    requires room { (at ≤ length went.old) × (length new.now ≤ length came.old) }
     ensures { EdgesTurn old.now new.now e.old e.new
         went.old went.new at came.new result }
 {

@@ -51,5 +51,5 @@ shape_of-gone c = search putting
 
 pub returns : goal.returns
 returns c =
-    put_stops c.snapshot-snap.ensures c.requires.0.2 c.crowded.ensures c.if-crowded.false refl refl refl
+    put_stops c.snapshot-snap.ensures c.requires.sizes.2 c.crowded.ensures c.if-crowded.false refl refl refl
     c.put_stops.ensures

@@ -48,8 +48,8 @@ shape_of-gone-in-Bad-swap_route c = search stopping
 
 pub returns-in-Bad-swap_route : goal.returns-in-Bad-swap_route
 returns-in-Bad-swap_route c =
-    let long = c.requires.1 in
-    stops_bad c.empty_all.ensures c.swap_route.ensures long.1 c.enum_told-in-Bad-swap_route-1.given.1
+    let long = c.requires.room in
+    stops_bad c.empty_all.ensures c.swap_route.ensures long.1 c.in-Bad-swap_route.is
 
 pub shape_of-r-in-Done : goal.shape_of-r-in-Done
 shape_of-r-in-Done c = search stopping
@@ -68,6 +68,6 @@ shape_of-gone-in-Done c = search stopping
 
 pub returns-in-Done : goal.returns-in-Done
 returns-in-Done c =
-    let long = c.requires.1 in
-    stops_done c.empty_all.ensures c.swap_route.ensures long.1 c.g-1.given.1 c.h-1.given.1
-    c.requires.0.2 long.0
+    let long = c.requires.room in
+    stops_done c.empty_all.ensures c.swap_route.ensures long.1 c.in-Upto.is c.in-Done.is
+    c.requires.sizes.2 long.0

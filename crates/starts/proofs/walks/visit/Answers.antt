@@ -44,7 +44,7 @@ pub shape_of-ring : goal.shape_of-ring
 shape_of-ring c = search walking
 
 pub shape_of-mark : goal.shape_of-mark
-shape_of-mark c = c.joins.auto.1.1.0 ∙ simp length-set
+shape_of-mark c = c.joins.auto.mark ∙ simp length-set
 
 pub returns : goal.returns
 returns c = search walking
