@@ -5,7 +5,7 @@ use Rattle.shown.proofs.Cycled.{Sweeping}
 use Rattle.shown.proofs.cycles.lowest.Given as goal
 
 abbrev pub invariant-loop-k : goal.invariant-loop-k
-invariant-loop-k l = Sweeping (λ w l.low. lower_of (at l.dist w) l.d w l.low) l.n l.row l.k l.low
+invariant-loop-k l = Sweeping (λ w low. lower_of (at l.dist w) l.d w low) l.n l.row l.k l.low
 
 abbrev pub decreases-loop-k : goal.decreases-loop-k
 decreases-loop-k l = length l.row - l.k
