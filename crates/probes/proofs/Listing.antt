@@ -1,5 +1,5 @@
 -- Lists of jobs: those of a list that pass a test, and those below n. Assumes nothing.
-use Rattle.std.proofs.Common.{◌≡◌, ℕ, zero, suc, ◌<◌, Bool, true, false, cond, ◌&&◌, ◌||◌, eqb, ◌⊎◌, List, [], ◌∷◌, length, sym, refl, ap, ◌∙◌, inl, inr, ⊎_elim, not-suc-le-zero, arith, eq-eqb, ne_eqb, eqb-true}
+use Rattle.std.proofs.Common.{◌≡◌, ℕ, zero, suc, ◌<◌, Bool, true, false, cond, ◌&&◌, ◌||◌, eqb, ◌⊎◌, List, [], ◌∷◌, length, sym, subst, refl, ap, ◌∙◌, inl, inr, ⊎_elim, not-suc-le-zero, arith, eq-eqb, ne_eqb, eqb-true}
 use Rattle.rules.specs.Lists.{Once, count, keep, memb, tick}
 use Rattle.rules.proofs.Members.{or-true}
 use Rattle.rules.proofs.Ranges.{Test, and_true, below, clash, fail, pass, same, test}
@@ -43,7 +43,7 @@ down_low (suc n) u e =
 
 down_in_lem : (n u : ℕ) → u < n → memb u (down n) ≡ true
 down_in_lem zero u h = absurd (not-suc-le-zero h)
-down_in_lem (suc n) u h = ⊎_elim (λ (x : u < n). memb_later u n (down n) (down_in_lem n u x)) (λ (x : u ≡ n). rw x (memb_self n (down n))) (below h)
+down_in_lem (suc n) u h = ⊎_elim (λ (x : u < n). memb_later u n (down n) (down_in_lem n u x)) (λ (x : u ≡ n). subst (λ (y : ℕ). memb y (n ∷ down n) ≡ true) (sym x) (memb_self n (down n))) (below h)
 
 down_once : (n : ℕ) → Once (down n)
 down_once zero = tt

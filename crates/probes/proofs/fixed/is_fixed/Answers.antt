@@ -1,5 +1,5 @@
 use Rattle.std.proofs.Common.{◌-◌}
-use Rattle.probes.proofs.Sought.{seeking}
+use Rattle.probes.proofs.Sought.{pass_end, pass_high, pass_hit, seeking}
 use Rattle.probes.proofs.fixed.is_fixed.Goals as goal
 
 -- `is_fixed`. Assumes nothing.
@@ -17,7 +17,7 @@ pub bounds-from-i : goal.bounds-from-i
 bounds-from-i c = search seeking
 
 pub returns-then-from-i : goal.returns-then-from-i
-returns-then-from-i c = search seeking
+returns-then-from-i c = pass_high c.loop-i.invariant c.loop-i-test.true c.requires c.if-from-i.true
 
 pub offset_bounds-to-i : goal.offset_bounds-to-i
 offset_bounds-to-i c = search seeking
@@ -26,7 +26,7 @@ pub bounds-to-i : goal.bounds-to-i
 bounds-to-i c = search seeking
 
 pub returns-then-to-i : goal.returns-then-to-i
-returns-then-to-i c = search seeking
+returns-then-to-i c = pass_hit c.loop-i.invariant c.loop-i-test.true c.requires c.if-from-i.false c.if-to-i.true
 
 pub overflow_add-i : goal.overflow_add-i
 overflow_add-i c = search seeking
@@ -38,4 +38,4 @@ pub loop-i-preserved : goal.loop-i-preserved
 loop-i-preserved c = search seeking
 
 pub returns : goal.returns
-returns c = search seeking
+returns c = pass_end c.loop-i.invariant c.loop-i-test.false
