@@ -38,14 +38,13 @@ slice_bounds-step-end-in-Is-3 c = search searching
 
 pub step-requires : goal.step-requires
 step-requires c =
-    let the_plan = c.plan-1 in
     let the_opened = c.opened in
     -- the type of an array says how long it is
     let marks : length c.args.found.crit ≡ most_jobs = sym (length-map c.args.found.crit (λ x. x)) ∙ c.well-formed.1.1.1.1.1.1.0.1.1.0.1.0.1 in (
       search searching,
       search searching,
       search searching,
-      few_in _ _ _ _ _ _ the_opened.ensures the_plan.given.1 c.broad.ensures c.args.found.crit marks,
+      few_in _ _ _ _ _ _ the_opened.ensures c.in-Is.is c.broad.ensures c.args.found.crit marks,
       search searching,
       search searching,
     )
@@ -57,6 +56,5 @@ pub returns-in-Is : goal.returns-in-Is
 returns-in-Is c =
     let the_broad = c.broad in
     let the_starts = c.starts in
-    let the_plan = c.plan-1 in
     let the_opened = c.opened in
-    moved_on_lem c.step.ensures the_starts.ensures the_broad.ensures the_plan.given.1 the_opened.ensures
+    moved_on_lem c.step.ensures the_starts.ensures the_broad.ensures c.in-Is.is the_opened.ensures

@@ -56,7 +56,6 @@ returns-else-is_cyclic c =
     let the_starts = c.starts in
     let the_if1 = c.if-is_cyclic in
     let the_is_cyclic = c.is_cyclic in
-    let the_plan = c.plan-1 in
     let the_opened = c.opened in
-    searched_calm _ _ _ the_opened.ensures the_plan.given.1 the_counted.ensures the_starts.ensures the_makespan.ensures
+    searched_calm _ _ _ the_opened.ensures c.in-Is.is the_counted.ensures the_starts.ensures the_makespan.ensures
     the_broad.ensures the_is_cyclic.ensures the_if1.false

@@ -11,29 +11,25 @@ use Rattle.moves.proofs.moved.answer.Goals as goal
 pub place-requires : goal.place-requires
 place-requires c =
     let the_begin = c.begin in
-    let the_plan = c.plan-1 in
-    (the_begin.auto.1.1.1.1.1.1.0 ∙ refl, refl, (ready the_begin.ensures the_plan.given.1).few)
+    (the_begin.auto.1.1.1.1.1.1.0 ∙ refl, refl, (ready the_begin.ensures c.in-Is.is).few)
 
 pub returns-then-not-place : goal.returns-then-not-place
 returns-then-not-place c =
     let the_begin = c.begin in
-    let the_plan = c.plan-1 in
     let the_place = c.place in
     let the_if1 = c.if-not-place in
-    moved_positions _ _ _ _ the_begin.ensures the_plan.given.1 the_place.ensures (not-true _ the_if1.true)
+    moved_positions _ _ _ _ the_begin.ensures c.in-Is.is the_place.ensures the_if1.true
 
 pub slice_bounds-finish-end : goal.slice_bounds-finish-end
 slice_bounds-finish-end c =
     let the_begin = c.begin in
-    let the_plan = c.plan-1 in
-    let o = open_is _ _ _ (ready the_begin.ensures the_plan.given.1).opens in let l = o.long.edges in simp length-take (omega arith)
+    let o = open_is _ _ _ (ready the_begin.ensures c.in-Is.is).opens in let l = o.long.edges in simp length-take (omega arith)
 
 pub finish-requires : goal.finish-requires
 finish-requires c =
     let the_begin = c.begin in
-    let the_plan = c.plan-1 in
     let the_place = c.place in
-    let r = ready the_begin.ensures the_plan.given.1 in
+    let r = ready the_begin.ensures c.in-Is.is in
     let o = open_is _ _ _ r.opens in
     let l = o.long.edges in (
       o.long.base,
@@ -49,14 +45,12 @@ finish-requires c =
 pub returns-in-Refused : goal.returns-in-Refused
 returns-in-Refused c =
     let the_begin = c.begin in
-    let the_r = c.r-1 in
-    moved_refused _ _ _ _ the_begin.ensures the_r.given.1
+    moved_refused _ _ _ _ the_begin.ensures c.in-Refused.is
 
 pub returns-else-not-place : goal.returns-else-not-place
 returns-else-not-place c =
     let the_begin = c.begin in
-    let the_plan = c.plan-1 in
     let the_place = c.place in
     let the_if1 = c.if-not-place in
     let the_finish = c.finish in
-    moved_finished _ _ _ _ the_begin.ensures the_plan.given.1 the_place.ensures (not-false _ the_if1.false) the_finish.ensures
+    moved_finished _ _ _ _ the_begin.ensures c.in-Is.is the_place.ensures the_if1.false the_finish.ensures

@@ -28,7 +28,7 @@ returns-then-not-is_permutation c =
     let the_if2 = c.if-len-b in
     let the_is_permutation = c.is_permutation in
     let the_if3 = c.if-not-is_permutation in
-    order_not the_broad.ensures the_broad2.ensures the_if1.false the_if2.false the_is_permutation.ensures (not-true _ the_if3.true)
+    order_not the_broad.ensures the_broad2.ensures the_if1.false the_if2.false the_is_permutation.ensures the_if3.true
 
 pub permutation-requires : goal.permutation-requires
 permutation-requires c =
@@ -40,7 +40,7 @@ permutation-requires c =
     let o = p.0 in
     let w = p.1 in
     let k = p.2 in
-    let (x, y) = order_list c.args.list.now _ the_is_permutation.ensures (not-false _ the_if3.false) in
+    let (x, y) = order_list c.args.list.now _ the_is_permutation.ensures the_if3.false in
     (record { order = the_if1.false; within = the_if2.false; old_room = omega arith; new_room = omega arith }, x, y)
 
 pub returns : goal.returns

@@ -17,14 +17,14 @@ pub returns-then-not-fits : goal.returns-then-not-fits
 returns-then-not-fits c =
     let the_fits2 = c.fits2 in
     let the_if2 = c.if-not-fits in
-    breaks_counts _ _ _ _ _ _ (sym the_fits2.ensures ∙ not-true _ the_if2.true)
+    breaks_counts _ _ _ _ _ _ (sym the_fits2.ensures ∙ the_if2.true)
 
 pub returns-then-from-to : goal.returns-then-from-to
 returns-then-from-to c =
     let the_fits2 = c.fits2 in
     let the_if2 = c.if-not-fits in
     let the_if3 = c.if-from-to in
-    let fits = sym the_fits2.ensures ∙ not-false _ the_if2.false in
+    let fits = sym the_fits2.ensures ∙ the_if2.false in
     breaks_pairs _ _ _ _ _ _ fits the_if3.true
 
 pub returns-then-durations-n : goal.returns-then-durations-n
@@ -34,7 +34,7 @@ returns-then-durations-n c =
     let the_if3 = c.if-from-to in
     let the_if4 = c.if-durations-n in
     let the_broad = c.broad-n in
-    let fits = sym the_fits2.ensures ∙ not-false _ the_if2.false in
+    let fits = sym the_fits2.ensures ∙ the_if2.false in
     breaks_durations _ _ _ _ _ _ fits the_if3.false (λ q. the_if4.true (q ∙ sym the_broad.ensures))
 
 pub returns-then-expected-eq0 : goal.returns-then-expected-eq0
@@ -45,7 +45,7 @@ returns-then-expected-eq0 c =
     let the_if4 = c.if-durations-n in
     let the_broad = c.broad-n in
     let the_if5 = c.if-expected-eq0 in
-    let fits = sym the_fits2.ensures ∙ not-false _ the_if2.false in
+    let fits = sym the_fits2.ensures ∙ the_if2.false in
     breaks_none _ _ _ _ _ _ fits the_if3.false (the_if4.false ∙ the_broad.ensures) the_if5.true
 
 pub returns : goal.returns
@@ -57,6 +57,6 @@ returns c =
     let the_if4 = c.if-durations-n in
     let the_if5 = c.if-expected-eq0 in
     let x = c.args in
-    let fits = sym the_fits2.ensures ∙ not-false _ the_if2.false in
+    let fits = sym the_fits2.ensures ∙ the_if2.false in
     ap (λ (k : ℕ). not (eqb x.expected k)) the_broad.ensures
     ∙ breaks_expected _ _ _ _ _ _ fits the_if3.false (the_if4.false ∙ the_broad.ensures) the_if5.false

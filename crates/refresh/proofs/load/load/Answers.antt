@@ -16,16 +16,16 @@ fill-requires c =
     let x = c.args in
     let l = loading x.jobs x.owners x.durations.now x.expected.now x.from.now x.to.now in
     let s = slices x.base.now x.spans.now x.edges.now x.routes.now x.times.now in
-    loadable l s c.short.ensures c.if-short.false c.check.ensures c.enum_told-1.given.1
+    loadable l s c.short.ensures c.if-short.false c.check.ensures c.in-Fine.is
 
 pub returns-in-Refused : goal.returns-in-Refused
 returns-in-Refused c =
-    load_refused _ _ c.short.ensures c.if-short.false c.check.ensures c.r-1.given.1
+    load_refused _ _ c.short.ensures c.if-short.false c.check.ensures c.in-Refused.is
 
 pub returns-in-Fine : goal.returns-in-Fine
 returns-in-Fine c =
     let x = c.args in
     let l = loading x.jobs x.owners x.durations.now x.expected.now x.from.now x.to.now in
     let s = slices x.base.now x.spans.now x.edges.now x.routes.now x.times.now in
-    load_done l s c.short.ensures c.if-short.false c.check.ensures c.enum_told-1.given.1
+    load_done l s c.short.ensures c.if-short.false c.check.ensures c.in-Fine.is
     c.fill.ensures

@@ -7,28 +7,24 @@ pub refresh-requires : goal.refresh-requires
 refresh-requires c =
     let the_broad = c.broad in
     let the_put = c.put in
-    let the_c = c.c-1 in
-    let p = c.requires.0 in let few = c.requires.1.0 in let jobs = the_broad.ensures in let k = the_put.auto in let within = rw the_c.given.1 at the_put.ensures.within in let came = k.1.1.1.1.1.1.0 in let went = k.1.1.1.1.1.1.1.0 in let gone = k.1.1.1.1.1.1.1.1.0 in let (few_came, few_went, few_gone) = within in (k.1.0 ∙ p.2, p.1, p.4, omega arith, omega (arith, few_came, came), omega (arith, few_came), omega (arith, few_went, went), omega (arith, few_went), omega (arith, few_gone, gone), omega (arith, few_gone))
+    let p = c.requires.0 in let few = c.requires.1.0 in let jobs = the_broad.ensures in let k = the_put.auto in let within = rw c.in-Done.is at the_put.ensures.within in let came = k.1.1.1.1.1.1.0 in let went = k.1.1.1.1.1.1.1.0 in let gone = k.1.1.1.1.1.1.1.1.0 in let (few_came, few_went, few_gone) = within in (k.1.0 ∙ p.2, p.1, p.4, omega arith, omega (arith, few_came, came), omega (arith, few_came), omega (arith, few_went, went), omega (arith, few_went), omega (arith, few_gone, gone), omega (arith, few_gone))
 
 pub returns-in-Bad : goal.returns-in-Bad
 returns-in-Bad c =
     let the_put = c.put in
     let the_expected = c.expected in
-    let the_enum_told = c.enum_told-1 in
-    follow_bad the_put.ensures the_expected.ensures the_enum_told.given.1
+    follow_bad the_put.ensures the_expected.ensures c.in-Bad.is
 
 pub returns-in-NoRoom : goal.returns-in-NoRoom
 returns-in-NoRoom c =
     let the_put = c.put in
     let the_expected = c.expected in
-    let the_enum_told2 = c.enum_told-in-NoRoom-1 in
-    follow_full the_put.ensures the_expected.ensures the_enum_told2.given.1
+    follow_full the_put.ensures the_expected.ensures c.in-NoRoom.is
 
 pub returns-in-Done : goal.returns-in-Done
 returns-in-Done c =
     let the_put = c.put in
     let the_expected = c.expected in
-    let the_c = c.c-1 in
     let the_refresh = c.refresh in
     let the_broad = c.broad in
-    follow_done the_put.ensures the_expected.ensures the_c.given.1 the_refresh.ensures the_broad.ensures
+    follow_done the_put.ensures the_expected.ensures c.in-Done.is the_refresh.ensures the_broad.ensures

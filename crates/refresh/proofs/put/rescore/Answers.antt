@@ -16,53 +16,44 @@ score_of-requires-in-Is-change c =
 
 pub minus-requires : goal.minus-requires
 minus-requires c =
-    let the_after = c.after-1 in
     let the_score_of2 = c.score_of-in-Is-change in
-    let the_before2 = c.before-1 in
     let the_score_of = c.score_of in
-    let x = subst Mild the_after.given.1 the_score_of2.ensures.within in
-    let y = subst Mild the_before2.given.1 the_score_of.ensures.within in
+    let x = subst Mild c.in-Is-score_of.is the_score_of2.ensures.within in
+    let y = subst Mild c.in-Is.is the_score_of.ensures.within in
     search rules
 
 pub returns-in-Refused : goal.returns-in-Refused
 returns-in-Refused c =
     let the_score_of = c.score_of in
-    let the_r = c.r-1 in
     let cut = c.requires.0 in
-    rescore_bad cut the_score_of.ensures the_r.given.1
+    rescore_bad cut the_score_of.ensures c.in-Refused.is
 
 pub returns-in-Refused-change : goal.returns-in-Refused-change
 returns-in-Refused-change c =
     let the_score_of = c.score_of in
     let the_change = c.change in
-    let the_r2 = c.r-in-Refused-change-1 in
     let cut = c.requires.0 in
-    rescore_refused cut the_score_of.ensures the_change.ensures the_r2.given.1
+    rescore_refused cut the_score_of.ensures the_change.ensures c.in-Refused-change.is
 
 pub returns-in-Refused-score_of : goal.returns-in-Refused-score_of
 returns-in-Refused-score_of c =
     let the_change = c.change in
     let the_score_of = c.score_of in
     let the_score_of2 = c.score_of-in-Is-change in
-    let the_report = c.report-1 in
-    let the_r3 = c.r-in-Refused-score_of-2-1 in
     let cut = c.requires.0 in
     let k = the_change.auto.1.1 in
     rescore_lost cut the_score_of.ensures the_change.ensures
-    (cut.0, cut.1, k.0 ∙ cut.2, k.1.0 ∙ cut.3, k.1.1.0 ∙ cut.4) the_score_of2.ensures the_report.given.1
-    the_r3.given.1
+    (cut.0, cut.1, k.0 ∙ cut.2, k.1.0 ∙ cut.3, k.1.1.0 ∙ cut.4) the_score_of2.ensures c.in-Is-change.is
+    c.in-Refused-score_of.is
 
 pub returns-in-Is-score_of : goal.returns-in-Is-score_of
 returns-in-Is-score_of c =
     let the_change = c.change in
     let the_score_of = c.score_of in
     let the_score_of2 = c.score_of-in-Is-change in
-    let the_report = c.report-1 in
-    let the_before2 = c.before-1 in
-    let the_after = c.after-1 in
     let the_minus = c.minus in
     let cut = c.requires.0 in
     let k = the_change.auto.1.1 in
     rescore_done cut the_score_of.ensures the_change.ensures
-    (cut.0, cut.1, k.0 ∙ cut.2, k.1.0 ∙ cut.3, k.1.1.0 ∙ cut.4) the_score_of2.ensures the_report.given.1
-    the_before2.given.1 the_after.given.1 the_minus.ensures
+    (cut.0, cut.1, k.0 ∙ cut.2, k.1.0 ∙ cut.3, k.1.1.0 ∙ cut.4) the_score_of2.ensures c.in-Is-change.is
+    c.in-Is.is c.in-Is-score_of.is the_minus.ensures

@@ -12,26 +12,23 @@ returns-then-out-n c =
     let the_broad = c.broad-n in
     let the_if1 = c.if-out-n in
     let the_opened = c.opened in
-    let the_plan = c.plan-1 in
     let b = the_broad.ensures in
     let d = the_if1.true in
-    verdict_few _ _ the_opened.ensures the_plan.given.1 (omega arith)
+    verdict_few _ _ the_opened.ensures c.in-Is.is (omega arith)
 
 pub slice_bounds-shown-end : goal.slice_bounds-shown-end
 slice_bounds-shown-end c =
     let the_opened = c.opened in
-    let the_plan = c.plan-1 in
-    let o = open_is _ _ _ (sym the_opened.ensures ∙ the_plan.given.1) in
+    let o = open_is _ _ _ (sym the_opened.ensures ∙ c.in-Is.is) in
     let l = o.long.edges in
     simp length-take (omega arith)
 
 pub shown-requires : goal.shown-requires
 shown-requires c =
     let the_opened = c.opened in
-    let the_plan = c.plan-1 in
     let the_broad = c.broad-n in
     let the_if1 = c.if-out-n in
-    let o = open_is _ _ _ (sym the_opened.ensures ∙ the_plan.given.1) in
+    let o = open_is _ _ _ (sym the_opened.ensures ∙ c.in-Is.is) in
     let j = o.jobs in
     let l = o.long.edges in
     let b = the_broad.ensures in
@@ -41,15 +38,13 @@ shown-requires c =
 pub returns-in-Refused : goal.returns-in-Refused
 returns-in-Refused c =
     let the_opened = c.opened in
-    let the_r = c.r-1 in
-    verdict_closed _ _ the_opened.ensures the_r.given.1
+    verdict_closed _ _ the_opened.ensures c.in-Refused.is
 
 pub returns-else-out-n : goal.returns-else-out-n
 returns-else-out-n c =
     let the_if1 = c.if-out-n in
     let the_opened = c.opened in
-    let the_plan = c.plan-1 in
     let the_broad = c.broad-n in
     let the_shown = c.shown in
     let d = the_if1.false in
-    verdict_shown _ _ the_opened.ensures the_plan.given.1 the_broad.ensures (omega arith) the_shown.ensures
+    verdict_shown _ _ the_opened.ensures c.in-Is.is the_broad.ensures (omega arith) the_shown.ensures

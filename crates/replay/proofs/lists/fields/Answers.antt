@@ -6,6 +6,6 @@ use Rattle.replay.proofs.lists.fields.Goals as goal
 
 pub loop-at-smaller : goal.loop-at-smaller
 loop-at-smaller c =
-    let behind = rw c.v-1.given.1 at c.field.ensures in
+    let behind = rw c.in-Is.is at c.field.ensures in
     let before = c.loop-at-test.true in
     omega arith

@@ -9,4 +9,4 @@ overflow_sub-result c =
     opposite {x = given.0.0} (record { sfits = c.known_told-1.given.0.1 }) c.if-v-lt0.false
 
 pub returns-else-v-lt0 : goal.returns-else-v-lt0
-returns-else-v-lt0 c = rw c.r-1.given.1 at h
+returns-else-v-lt0 c = rw c.in-Is.is at h

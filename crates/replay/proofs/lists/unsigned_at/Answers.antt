@@ -5,4 +5,4 @@ use Rattle.replay.proofs.lists.unsigned_at.Goals as goal
 pub returns-in-Is : goal.returns-in-Is
 returns-in-Is c =
     let the_number = c.number in
-    (rw c.v-1.given.1 at the_number.ensures).0
+    (rw c.in-Is.is at the_number.ensures).0

@@ -5,7 +5,7 @@ use Rattle.replay.proofs.plans.end_of.Goals as goal
 
 pub returns-in-At : goal.returns-in-At
 returns-in-At c =
-    let ended = rw c.e-1.given.1 at c.line_end.ensures in
+    let ended = rw c.in-At.is at c.line_end.ensures in
     let ahead = ended.ahead in
     let within = ended.within in
     (omega arith, omega arith)

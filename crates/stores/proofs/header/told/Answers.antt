@@ -18,13 +18,13 @@ returns-then-mark-ne1 c =
 pub returns-then-fits : goal.returns-then-fits
 returns-then-fits c =
     let the_if2 = c.if-mark-ne1 in
-    let the_fits2 = c.fits2 in
+    let the_fits2 = c.fits in
     let the_if3 = c.if-fits in
     sym (headed _ the_if2.false (sym the_fits2.ensures ∙ the_if3.true))
 
 pub returns : goal.returns
 returns c =
     let the_if2 = c.if-mark-ne1 in
-    let the_fits2 = c.fits2 in
+    let the_fits2 = c.fits in
     let the_if3 = c.if-fits in
     sym (oversized _ the_if2.false (sym the_fits2.ensures ∙ the_if3.false))

@@ -9,36 +9,31 @@ returns-then-out-n c =
     let the_broad = c.broad-n in
     let the_if1 = c.if-out-n in
     let the_opened = c.opened in
-    let the_plan = c.plan-1 in
-    let b = the_broad.ensures in let d = the_if1.true in starts_few _ _ the_opened.ensures the_plan.given.1 (omega arith)
+    let b = the_broad.ensures in let d = the_if1.true in starts_few _ _ the_opened.ensures c.in-Is.is (omega arith)
 
 pub starts-requires : goal.starts-requires
 starts-requires c =
     let the_opened = c.opened in
-    let the_plan = c.plan-1 in
-    (open_is _ _ _ (sym the_opened.ensures ∙ the_plan.given.1)).long.times
+    (open_is _ _ _ (sym the_opened.ensures ∙ c.in-Is.is)).long.times
 
 pub copy-requires : goal.copy-requires
 copy-requires c =
     let the_opened = c.opened in
-    let the_plan = c.plan-1 in
     let the_broad = c.broad-n in
     let the_if1 = c.if-out-n in
     let the_starts = c.starts in
-    let o = open_is _ _ _ (sym the_opened.ensures ∙ the_plan.given.1) in let j = o.jobs in let b = the_broad.ensures in let d = the_if1.false in let l = starts_long c.args.times.now the_starts.ensures o.long.times in (omega arith, omega arith)
+    let o = open_is _ _ _ (sym the_opened.ensures ∙ c.in-Is.is) in let j = o.jobs in let b = the_broad.ensures in let d = the_if1.false in let l = starts_long c.args.times.now the_starts.ensures o.long.times in (omega arith, omega arith)
 
 pub returns-in-Refused : goal.returns-in-Refused
 returns-in-Refused c =
     let the_opened = c.opened in
-    let the_r = c.r-1 in
-    starts_closed _ _ the_opened.ensures the_r.given.1
+    starts_closed _ _ the_opened.ensures c.in-Refused.is
 
 pub returns-else-out-n : goal.returns-else-out-n
 returns-else-out-n c =
     let the_if1 = c.if-out-n in
     let the_opened = c.opened in
-    let the_plan = c.plan-1 in
     let the_broad = c.broad-n in
     let the_copy = c.copy in
     let the_starts = c.starts in
-    let d = the_if1.false in starts_all _ _ the_opened.ensures the_plan.given.1 the_broad.ensures (omega arith) (the_copy.ensures ∙ rw the_starts.ensures)
+    let d = the_if1.false in starts_all _ _ the_opened.ensures c.in-Is.is the_broad.ensures (omega arith) (the_copy.ensures ∙ rw the_starts.ensures)

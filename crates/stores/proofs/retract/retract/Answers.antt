@@ -12,34 +12,30 @@ use Rattle.stores.proofs.retract.retract.Goals as goal
 pub returns-then-not-has_owner : goal.returns-then-not-has_owner
 returns-then-not-has_owner c =
     let the_opened = c.opened in
-    let the_plan = c.plan-1 in
     let the_owner = c.has_owner in
     let the_if1 = c.if-not-has_owner in
-    retract_nobody _ _ the_opened.ensures the_plan.given.1 the_owner.ensures (not-true _ the_if1.true)
+    retract_nobody _ _ the_opened.ensures c.in-Is.is the_owner.ensures the_if1.true
 
 pub slice_bounds-retract-end : goal.slice_bounds-retract-end
 slice_bounds-retract-end c =
     let the_opened = c.opened in
-    let the_plan = c.plan-1 in
-    (open_is _ _ _ (sym the_opened.ensures ∙ the_plan.given.1)).long.routes
+    (open_is _ _ _ (sym the_opened.ensures ∙ c.in-Is.is)).long.routes
 
 pub slice_bounds-retract-end-in-Is : goal.slice_bounds-retract-end-in-Is
 slice_bounds-retract-end-in-Is c =
     let the_opened = c.opened in
-    let the_plan = c.plan-1 in
-    let l = (open_is _ _ _ (sym the_opened.ensures ∙ the_plan.given.1)).long.routes in
+    let l = (open_is _ _ _ (sym the_opened.ensures ∙ c.in-Is.is)).long.routes in
     simp length-take (omega arith)
 
 pub retract-requires : goal.retract-requires
 retract-requires c =
     let the_opened = c.opened in
-    let the_plan = c.plan-1 in
     let the_owner = c.has_owner in
     let the_if1 = c.if-not-has_owner in
-    let o = open_is _ _ _ (sym the_opened.ensures ∙ the_plan.given.1) in
+    let o = open_is _ _ _ (sym the_opened.ensures ∙ c.in-Is.is) in
     let n = c.args.owner.0 in
-    let m = the_plan.given.0.0.owners in
-    let k : n < m = ltb-true n m (sym the_owner.ensures ∙ not-false _ the_if1.false) in
+    let m = c.in-Is.plan.owners in
+    let k : n < m = ltb-true n m (sym the_owner.ensures ∙ the_if1.false) in
     let l = o.long.routes in
     let few = o.owners in
     (simp length-take (omega arith), omega arith)
@@ -47,25 +43,20 @@ retract-requires c =
 pub returns-in-Refused : goal.returns-in-Refused
 returns-in-Refused c =
     let the_opened = c.opened in
-    let the_r = c.r-1 in
-    retract_closed _ _ the_opened.ensures the_r.given.1
+    retract_closed _ _ the_opened.ensures c.in-Refused.is
 
 pub returns-in-Bad : goal.returns-in-Bad
 returns-in-Bad c =
     let the_opened = c.opened in
-    let the_plan = c.plan-1 in
     let the_owner = c.has_owner in
     let the_if1 = c.if-not-has_owner in
     let the_retract = c.retract in
-    let the_told = c.enum_told-1 in
-    retract_bad _ _ the_opened.ensures the_plan.given.1 the_owner.ensures (not-false _ the_if1.false) the_retract.ensures the_told.given.1
+    retract_bad _ _ the_opened.ensures c.in-Is.is the_owner.ensures the_if1.false the_retract.ensures c.in-Bad.is
 
 pub returns-in-Fine : goal.returns-in-Fine
 returns-in-Fine c =
     let the_opened = c.opened in
-    let the_plan = c.plan-1 in
     let the_owner = c.has_owner in
     let the_if1 = c.if-not-has_owner in
     let the_retract = c.retract in
-    let the_told = c.enum_told-in-Fine-1 in
-    retract_waits _ _ the_opened.ensures the_plan.given.1 the_owner.ensures (not-false _ the_if1.false) the_retract.ensures the_told.given.1
+    retract_waits _ _ the_opened.ensures c.in-Is.is the_owner.ensures the_if1.false the_retract.ensures c.in-Fine.is

@@ -10,37 +10,30 @@ use Rattle.stores.proofs.score.score.Goals as goal
 pub score_of-requires : goal.score_of-requires
 score_of-requires c =
     let the_opened = c.opened in
-    let the_plan = c.plan-1 in
-    let o = open_is _ _ _ (sym the_opened.ensures ∙ the_plan.given.1) in
+    let o = open_is _ _ _ (sym the_opened.ensures ∙ c.in-Is.is) in
     let l = o.long in
     let j = o.jobs in
     search rules
 
 pub match_count-requires : goal.match_count-requires
 match_count-requires c =
-    let the_s = c.s-1 in
     let the_score_of = c.score_of in
-    subst Mild the_s.given.1 the_score_of.ensures.within
+    subst Mild c.in-Is-score_of.is the_score_of.ensures.within
 
 pub returns-in-Refused : goal.returns-in-Refused
 returns-in-Refused c =
     let the_opened = c.opened in
-    let the_r = c.r-1 in
-    score_closed _ the_opened.ensures the_r.given.1
+    score_closed _ the_opened.ensures c.in-Refused.is
 
 pub returns-in-Refused-score_of : goal.returns-in-Refused-score_of
 returns-in-Refused-score_of c =
     let the_opened = c.opened in
-    let the_plan = c.plan-1 in
     let the_score_of = c.score_of in
-    let the_r2 = c.r-in-Refused-score_of-1 in
-    score_bad _ the_opened.ensures the_plan.given.1 the_score_of.ensures the_r2.given.1
+    score_bad _ the_opened.ensures c.in-Is.is the_score_of.ensures c.in-Refused-score_of.is
 
 pub returns-in-Is-score_of : goal.returns-in-Is-score_of
 returns-in-Is-score_of c =
     let the_opened = c.opened in
-    let the_plan = c.plan-1 in
     let the_score_of = c.score_of in
-    let the_s = c.s-1 in
     let the_match_count = c.match_count in
-    score_is _ the_opened.ensures the_plan.given.1 the_score_of.ensures the_s.given.1 the_match_count.ensures
+    score_is _ the_opened.ensures c.in-Is.is the_score_of.ensures c.in-Is-score_of.is the_match_count.ensures

@@ -6,34 +6,30 @@ use Rattle.stores.proofs.score.static_penalty.Goals as goal
 
 pub overflow_cast-fixed : goal.overflow_cast-fixed
 overflow_cast-fixed c =
-    let the_shared_slice_known3 = c.shared_slice_known-3-1 in
-    omega (arith, the_shared_slice_known3.given 4)
+    omega (arith, c.type_inv.base 4)
 
 pub overflow_add-result : goal.overflow_add-result
 overflow_add-result c =
     let the_sum_of = c.sum_of-owners in
     let the_faults = c.faults in
-    let the_shared_slice_known3 = c.shared_slice_known-3-1 in
-    let a = the_sum_of.ensures.few in let b = the_shared_slice_known3.given 4 in let l = the_faults.ensures.long in omega arith
+    let a = the_sum_of.ensures.few in let b = c.type_inv.base 4 in let l = the_faults.ensures.long in omega arith
 
 pub overflow_add-result-2 : goal.overflow_add-result-2
 overflow_add-result-2 c =
     let the_sum_of = c.sum_of-owners in
     let the_faults = c.faults in
     let the_assignments = c.assignments-jobs in
-    let the_shared_slice_known3 = c.shared_slice_known-3-1 in
-    let a = the_sum_of.ensures.few in let b = the_assignments.ensures.few in let d = the_shared_slice_known3.given 4 in
+    let a = the_sum_of.ensures.few in let b = the_assignments.ensures.few in let d = c.type_inv.base 4 in
     let l = the_faults.ensures.long in
     omega arith
 
 pub returns : goal.returns
 returns c =
-    let the_shared_slice_known3 = c.shared_slice_known-3-1 in
     let the_faults = c.faults in
     let the_sum_of = c.sum_of-owners in
     let the_assigned = c.assigned in
     let the_assignments = c.assignments-jobs in
     let the_broad = c.broad in
-    let d = the_shared_slice_known3.given 4 in
+    let d = c.type_inv.base 4 in
     penal_of (omega arith) the_faults.ensures the_sum_of.ensures the_assigned.ensures the_assignments.ensures
     the_broad.ensures c.requires.2

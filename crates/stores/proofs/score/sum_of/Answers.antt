@@ -11,23 +11,20 @@ loop-i-init c = sum_none _
 
 pub overflow_cast-sum : goal.overflow_cast-sum
 overflow_cast-sum c =
-    let the_shared_slice_known = c.shared_slice_known-1 in
     let the_loop = c.loop-i in
-    omega (arith, the_shared_slice_known.given the_loop.i)
+    omega (arith, c.type_inv.s the_loop.i)
 
 pub overflow_add-sum : goal.overflow_add-sum
 overflow_add-sum c =
-    let the_shared_slice_known = c.shared_slice_known-1 in
     let the_loop = c.loop-i in
     let few = the_loop.invariant.few in
-    omega (arith, the_shared_slice_known.given the_loop.i)
+    omega (arith, c.type_inv.s the_loop.i)
 
 pub loop-i-preserved : goal.loop-i-preserved
 loop-i-preserved c =
-    let the_shared_slice_known = c.shared_slice_known-1 in
     let the_loop = c.loop-i in
     let the_loop_test = c.loop-i-test in
-    let word = the_shared_slice_known.given the_loop.i in
+    let word = c.type_inv.s the_loop.i in
     sum_turn the_loop.invariant the_loop_test.true (omega arith)
 
 pub returns : goal.returns
