@@ -15,13 +15,13 @@ returns-then-from-gt-FIXED c =
 
 pub returns-then-not-fits : goal.returns-then-not-fits
 returns-then-not-fits c =
-    let the_fits2 = c.fits2 in
+    let the_fits2 = c.fits in
     let the_if2 = c.if-not-fits in
     breaks_counts _ _ _ _ _ _ (sym the_fits2.ensures ∙ the_if2.true)
 
 pub returns-then-from-to : goal.returns-then-from-to
 returns-then-from-to c =
-    let the_fits2 = c.fits2 in
+    let the_fits2 = c.fits in
     let the_if2 = c.if-not-fits in
     let the_if3 = c.if-from-to in
     let fits = sym the_fits2.ensures ∙ the_if2.false in
@@ -29,7 +29,7 @@ returns-then-from-to c =
 
 pub returns-then-durations-n : goal.returns-then-durations-n
 returns-then-durations-n c =
-    let the_fits2 = c.fits2 in
+    let the_fits2 = c.fits in
     let the_if2 = c.if-not-fits in
     let the_if3 = c.if-from-to in
     let the_if4 = c.if-durations-n in
@@ -39,7 +39,7 @@ returns-then-durations-n c =
 
 pub returns-then-expected-eq0 : goal.returns-then-expected-eq0
 returns-then-expected-eq0 c =
-    let the_fits2 = c.fits2 in
+    let the_fits2 = c.fits in
     let the_if2 = c.if-not-fits in
     let the_if3 = c.if-from-to in
     let the_if4 = c.if-durations-n in
@@ -51,7 +51,7 @@ returns-then-expected-eq0 c =
 pub returns : goal.returns
 returns c =
     let the_broad = c.broad-n in
-    let the_fits2 = c.fits2 in
+    let the_fits2 = c.fits in
     let the_if2 = c.if-not-fits in
     let the_if3 = c.if-from-to in
     let the_if4 = c.if-durations-n in

@@ -27,4 +27,4 @@ returns c =
     let the_broad = c.broad in
     let the_anew = c.anew in
     let the_score_of = c.score_of in
-    rates_is the_broad.ensures the_anew.ensures (the_anew.auto.1.1.0 ∙ length-take-le times_length c.args.times.now c.requires.4) the_score_of.ensures
+    rates_is the_broad.ensures the_anew.ensures (the_anew.auto.times ∙ length-take-le times_length c.args.times.now c.requires.4) the_score_of.ensures

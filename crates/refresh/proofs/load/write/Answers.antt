@@ -28,5 +28,5 @@ fixed-requires c =
 pub returns : goal.returns
 returns c =
     laid _ c.requires.fine c.requires.routes_long c.write_base.ensures c.write_spans.ensures
-    c.fixed.ensures (c.fixed.auto.0 ∙ length-take-le edges_length c.args.edges.now c.requires.edges_long)
+    c.fixed.ensures (c.fixed.auto.e ∙ length-take-le edges_length c.args.edges.now c.requires.edges_long)
     c.no_routes.ensures

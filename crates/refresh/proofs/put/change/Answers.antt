@@ -7,7 +7,16 @@ pub refresh-requires : goal.refresh-requires
 refresh-requires c =
     let the_broad = c.broad in
     let the_put = c.put in
-    let p = c.requires.0 in let few = c.requires.1.0 in let jobs = the_broad.ensures in let k = the_put.auto in let within = rw c.in-Done.is at the_put.ensures.within in let came = k.1.1.1.1.1.1.0 in let went = k.1.1.1.1.1.1.1.0 in let gone = k.1.1.1.1.1.1.1.1.0 in let (few_came, few_went, few_gone) = within in (k.1.0 ∙ p.2, p.1, p.4, omega arith, omega (arith, few_came, came), omega (arith, few_came), omega (arith, few_went, went), omega (arith, few_went), omega (arith, few_gone, gone), omega (arith, few_gone))
+    let p = c.requires.sizes in
+    let few = c.requires.low.0 in
+    let jobs = the_broad.ensures in
+    let k = the_put.auto in
+    let within = rw c.in-Done.is at the_put.ensures.within in
+    let came = k.came in
+    let went = k.went in
+    let gone = k.gone in
+    let (few_came, few_went, few_gone) = within in
+    (k.e ∙ p.2, p.1, p.4, omega arith, omega (arith, few_came, came), omega (arith, few_came), omega (arith, few_went, went), omega (arith, few_went), omega (arith, few_gone, gone), omega (arith, few_gone))
 
 pub returns-in-Bad : goal.returns-in-Bad
 returns-in-Bad c =

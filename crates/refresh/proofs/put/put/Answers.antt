@@ -51,10 +51,11 @@ rescore-requires c =
     let the_opened = c.opened in
     let the_asked = c.asked in
     let x = opens_to the_opened.ensures c.in-Is.is in
-    let l = x.long in (
-      (l.base, simp length-take (omega arith), simp length-take (omega arith), simp length-take (omega arith), simp length-take (omega arith)),
-      asked_few _ _ _ _ x.jobs x.owners the_asked.ensures c.in-Fine.is,
-    )
+    let l = x.long in
+    record {
+      sizes = (l.base, simp length-take (omega arith), simp length-take (omega arith), simp length-take (omega arith), simp length-take (omega arith));
+      low = asked_few _ _ _ _ x.jobs x.owners the_asked.ensures c.in-Fine.is;
+    }
 
 pub returns-in-Refused : goal.returns-in-Refused
 returns-in-Refused c =

@@ -25,14 +25,14 @@ minus-requires c =
 pub returns-in-Refused : goal.returns-in-Refused
 returns-in-Refused c =
     let the_score_of = c.score_of in
-    let cut = c.requires.0 in
+    let cut = c.requires.sizes in
     rescore_bad cut the_score_of.ensures c.in-Refused.is
 
 pub returns-in-Refused-change : goal.returns-in-Refused-change
 returns-in-Refused-change c =
     let the_score_of = c.score_of in
     let the_change = c.change in
-    let cut = c.requires.0 in
+    let cut = c.requires.sizes in
     rescore_refused cut the_score_of.ensures the_change.ensures c.in-Refused-change.is
 
 pub returns-in-Refused-score_of : goal.returns-in-Refused-score_of
@@ -40,10 +40,10 @@ returns-in-Refused-score_of c =
     let the_change = c.change in
     let the_score_of = c.score_of in
     let the_score_of2 = c.score_of-in-Is-change in
-    let cut = c.requires.0 in
-    let k = the_change.auto.1.1 in
+    let cut = c.requires.sizes in
+    let k = the_change.auto in
     rescore_lost cut the_score_of.ensures the_change.ensures
-    (cut.0, cut.1, k.0 ∙ cut.2, k.1.0 ∙ cut.3, k.1.1.0 ∙ cut.4) the_score_of2.ensures c.in-Is-change.is
+    (cut.0, cut.1, k.edges ∙ cut.2, k.routes ∙ cut.3, k.times ∙ cut.4) the_score_of2.ensures c.in-Is-change.is
     c.in-Refused-score_of.is
 
 pub returns-in-Is-score_of : goal.returns-in-Is-score_of
@@ -52,8 +52,8 @@ returns-in-Is-score_of c =
     let the_score_of = c.score_of in
     let the_score_of2 = c.score_of-in-Is-change in
     let the_minus = c.minus in
-    let cut = c.requires.0 in
-    let k = the_change.auto.1.1 in
+    let cut = c.requires.sizes in
+    let k = the_change.auto in
     rescore_done cut the_score_of.ensures the_change.ensures
-    (cut.0, cut.1, k.0 ∙ cut.2, k.1.0 ∙ cut.3, k.1.1.0 ∙ cut.4) the_score_of2.ensures c.in-Is-change.is
+    (cut.0, cut.1, k.edges ∙ cut.2, k.routes ∙ cut.3, k.times ∙ cut.4) the_score_of2.ensures c.in-Is-change.is
     c.in-Is.is c.in-Is-score_of.is the_minus.ensures
