@@ -1,6 +1,4 @@
 -- Laws that belong to no one function. Assumes nothing.
-pub mod Chains
-pub mod Again
 pub mod Settling
 pub mod Running
 pub mod Stepping

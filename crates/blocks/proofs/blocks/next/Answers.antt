@@ -40,7 +40,7 @@ pub step-requires : goal.step-requires
 step-requires c =
     let the_opened = c.opened in
     -- the type of an array says how long it is
-    let marks : length c.args.found.crit ≡ most_jobs = sym (length-map c.args.found.crit (λ x. x)) ∙ c.well-formed.1.1.1.1.1.1.0.1.1.0.1.0.1 in (
+    let marks : length c.args.found.crit ≡ most_jobs = c.well_formed.1.1.1.1.1.1.0.1.1.0.1.0.1 in (
       search searching,
       search searching,
       search searching,
