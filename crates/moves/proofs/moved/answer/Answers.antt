@@ -11,7 +11,7 @@ use Rattle.moves.proofs.moved.answer.Goals as goal
 pub place-requires : goal.place-requires
 place-requires c =
     let the_begin = c.begin in
-    (the_begin.auto.1.1.1.1.1.1.0 ∙ refl, refl, (ready the_begin.ensures c.in-Is.is).few)
+    (the_begin.auto.old ∙ refl, refl, (ready the_begin.ensures c.in-Is.is).few)
 
 pub returns-then-not-place : goal.returns-then-not-place
 returns-then-not-place c =
@@ -37,8 +37,8 @@ finish-requires c =
       o.long.times,
       o.jobs,
       o.fixed,
-      the_begin.auto.1.1.1.1.1.1.0 ∙ refl,
-      the_place.auto.1.1.1.1.0 ∙ refl,
+      the_begin.auto.old ∙ refl,
+      the_place.auto.new ∙ refl,
       r.few,
     )
 

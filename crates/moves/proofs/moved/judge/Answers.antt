@@ -1,3 +1,5 @@
+use mathlib.Core.Path.{ap}
+use mathlib.Core.Bool.{not}
 use borrow.Author.Rules.{rules}
 use Rattle.moves.proofs.Promised.{count_few, front_few, judging, parts_even, tested}
 use Rattle.moves.proofs.moved.judge.Goals as goal
@@ -45,8 +47,8 @@ check-c-requires c =
       search (rules, count_few),
       search (rules, front_few),
       search (rules, front_few),
-      tested c.are_jobs.ensures c.if-not-are_jobs.false,
-      tested c.are_jobs-2.ensures c.if-not-are_jobs-2.false,
+      tested c.are_jobs.ensures (ap not c.if-not-are_jobs.false),
+      tested c.are_jobs-2.ensures (ap not c.if-not-are_jobs-2.false),
     )
 
 pub widen-requires : goal.widen-requires

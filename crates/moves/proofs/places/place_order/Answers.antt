@@ -52,5 +52,4 @@ returns c =
     let the_is_permutation = c.is_permutation in
     let the_if3 = c.if-not-is_permutation in
     let the_permutation = c.permutation in
-    order_made the_broad.ensures the_broad2.ensures the_if1.false the_if2.false the_is_permutation.ensures _ (not-false _
-    the_if3.false) (omega (arith, c.requires.0)) the_permutation.ensures
+    order_made the_broad.ensures the_broad2.ensures the_if1.false the_if2.false the_is_permutation.ensures _ the_if3.false (omega (arith, c.requires.0)) the_permutation.ensures
