@@ -19,7 +19,7 @@ use Rattle.rules.specs.Routes.{State}
 use Rattle.rules.specs.Calls.{Ask, Reply, reply, to_put, to_retract, to_load}
 use Rattle.rules.specs.Scores.{no_change}
 use Rattle.text.specs.declared.vocabulary.Word.{Word}
-use Rattle.text.specs.declared.vocabulary.Word.TheVariants.{Put}
+use Rattle.text.specs.declared.vocabulary.Word.TheVariants.{Plan as PlanWord, Dur, Fix, Go, Put, Cut, Show, Crit}
 use Rattle.text.specs.Writes.{Wrote, Fills}
 use Rattle.text.specs.Answers.{reply_text, no_line, ok_line, line_length, score_length}
 use Rattle.text.specs.Grammar.{fits_of, fitted}
@@ -131,19 +131,16 @@ asked_as {o} {w} {v} {ns} {s} {s'} {out} {r} {out'} e A = by (request_of o ns v)
     by none q A = absurd A
     by (some p) q A = record { request = p; asks = record { is = q ∙ ap (request_of o ns) (sym e) }; answers = A }
 
--- the rows of the words up to `go`
-abbrev up_to_go : List ℕ
-up_to_go = 0 ∷ 1 ∷ 2 ∷ 3 ∷ []
-
-asks_nothing : Option Request → Bool
-asks_nothing none = true
-asks_nothing (some q) = false
-
--- these ask for nothing
-pub unasked : {o : ℕ} {w : Word} {ns : List ℕ} {q : Request} → Asks o w ns q → OneOf up_to_go (tag_of the_type w) → ⊥
-unfolding asks_nothing
-unasked {o} {w} {ns} A k =
-    let e = rw (← A.is) at (each_tested (λ v. asks_nothing (request_of o ns v) || not (has_key up_to_go (tag_of the_type v))) refl w) in
-    miss up_to_go (tag_of the_type w) (rw e tt) k
+-- the words up to `go` ask for nothing
+pub unasked : (o : ℕ) (ns : List ℕ) (q : Request) (w : Word) → some q ≡ request_of o ns w
+    → (w ≡ Put → ⊥) → (w ≡ Cut → ⊥) → (w ≡ Show → ⊥) → (w ≡ Crit → ⊥) → ⊥
+unasked o ns q PlanWord e put cut show crit = absurd cc
+unasked o ns q Dur e put cut show crit = absurd cc
+unasked o ns q Fix e put cut show crit = absurd cc
+unasked o ns q Go e put cut show crit = absurd cc
+unasked o ns q Put e put cut show crit = put refl
+unasked o ns q Cut e put cut show crit = cut refl
+unasked o ns q Show e put cut show crit = show refl
+unasked o ns q Crit e put cut show crit = crit refl
 
 pub ruleset calling = (rules, some_are, asked_as)

@@ -89,4 +89,4 @@ pub returns-in-Crit : goal.returns-in-Crit
 returns-in-Crit c = search calling
 
 pub returns-in_default : goal.returns-in_default
-returns-in_default c = (λ q A. unasked A c.in_default.keys5, record { store = refl; bytes = refl })
+returns-in_default c = (λ q A. unasked c.args.owners c.args.numbers.now q c.args.word A.is c.in_default.not-Put c.in_default.not-Cut c.in_default.not-Show c.in_default.not-Crit, record { store = refl; bytes = refl })

@@ -1,5 +1,5 @@
 use Prim.Native.Nat.{◌-◌}
-use Rattle.lines.proofs.Blocking.{blocking}
+use Rattle.lines.proofs.Blocking.{blocking, listing_done}
 use Rattle.lines.proofs.critical.block_lines.Goals as goal
 
 -- `block_lines`: one block is found and its line written at each turn. Assumes nothing.
@@ -26,4 +26,4 @@ pub shape_of-out : goal.shape_of-out
 shape_of-out c = search blocking
 
 pub returns : goal.returns
-returns c = search blocking
+returns c = listing_done c.loop-i.invariant c.loop-i-test.false c.requires.1

@@ -1,6 +1,5 @@
 use mathlib.Core.List.{[], ◌∷◌}
 use types.Run.{miss}
-use Rattle.text.proofs.Tabled.{rows_but}
 use Rattle.lines.proofs.Stepping.{dur_missed, stepping}
 use Rattle.lines.proofs.steps.dur_line.Goals as goal
 
@@ -22,4 +21,4 @@ pub returns-in-Dur : goal.returns-in-Dur
 returns-in-Dur c = search stepping
 
 pub returns-in_default : goal.returns-in_default
-returns-in_default c = dur_missed (λ e. miss (rows_but (1 ∷ [])) 1 tt (rw e at c.in_default.keys2))
+returns-in_default c = dur_missed c.in_default.not-Dur

@@ -1,6 +1,5 @@
 use mathlib.Core.List.{[], ◌∷◌}
 use types.Run.{miss}
-use Rattle.text.proofs.Tabled.{rows_but}
 use Rattle.lines.proofs.Stepping.{fix_missed, stepping}
 use Rattle.lines.proofs.steps.fix_line.Goals as goal
 
@@ -46,4 +45,4 @@ pub returns-in-Go : goal.returns-in-Go
 returns-in-Go c = search stepping
 
 pub returns-in_default : goal.returns-in_default
-returns-in_default c = fix_missed (λ e. miss (rows_but (2 ∷ 3 ∷ [])) 2 tt (rw e at c.in_default.keys3)) (λ e. miss (rows_but (2 ∷ 3 ∷ [])) 3 tt (rw e at c.in_default.keys3))
+returns-in_default c = fix_missed c.in_default.not-Fix c.in_default.not-Go

@@ -1,6 +1,5 @@
 use mathlib.Core.List.{[], ◌∷◌}
 use types.Run.{miss}
-use Rattle.text.proofs.Tabled.{rows_but}
 use Rattle.lines.proofs.Stepping.{plan_missed, stepping}
 use Rattle.lines.proofs.steps.plan_line.Goals as goal
 
@@ -19,4 +18,4 @@ pub returns-in-Plan : goal.returns-in-Plan
 returns-in-Plan c = search stepping
 
 pub returns-in_default : goal.returns-in_default
-returns-in_default c = plan_missed (λ e. miss (rows_but (0 ∷ [])) 0 tt (rw e at c.in_default.keys2))
+returns-in_default c = plan_missed c.in_default.not-Plan
