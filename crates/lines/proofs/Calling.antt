@@ -3,11 +3,8 @@ use Prim.Native.Nat.{ℕ, ◌≤◌, ◌-◌}
 use native.Mathlib.Omega.{arith}
 use mathlib.Core.Path.{◌≡◌, sym, ap, subst, ◌∙◌, refl}
 use mathlib.Core.Option.{Option, none, some}
-use mathlib.Core.List.{List, [], ◌∷◌, map}
-use mathlib.Core.Bool.{Bool, true, false, not, ◌||◌}
-use denote.Enum.Declared.{tag_of}
-use mir.Val.{has_key}
-use types.Run.{OneOf, miss}
+use mathlib.Core.List.{List, [], map}
+use mathlib.Core.Bool.{true}
 use borrow.Author.Rules.{rules}
 use borrow.Author.Tests.{leb-true}
 use lib.ListN.{length, get_or, take, drop, replicate, length-replicate}
@@ -23,8 +20,6 @@ use Rattle.text.specs.declared.vocabulary.Word.TheVariants.{Plan as PlanWord, Du
 use Rattle.text.specs.Writes.{Wrote, Fills}
 use Rattle.text.specs.Answers.{reply_text, no_line, ok_line, line_length, score_length}
 use Rattle.text.specs.Grammar.{fits_of, fitted}
-use Rattle.text.specs.contracts.vocabulary.Word.{the_type}
-use Rattle.text.proofs.Tabled.{each_tested}
 use Rattle.text.proofs.Pieces.{fills_within}
 use Rattle.stores.specs.declared.score.Scored.{Scored}
 use Rattle.stores.specs.declared.score.Scored.TheVariants.{Is, Refused as Unloaded}
@@ -40,7 +35,7 @@ use Rattle.lines.specs.declared.steps.Typed.{Typed}
 use Rattle.lines.specs.Answers.{call, Answers, Request}
 use Rattle.lines.specs.Sizes.{most_numbers}
 use Rattle.lines.specs.Steps.{typing_of}
-use Rattle.lines.specs.Serves.{loading_of, request_of, Asks}
+use Rattle.lines.specs.Serves.{loading_of, request_of}
 use Rattle.lines.specs.Parts.{Asked}
 use Rattle.lines.proofs.Filling.{map_front}
 

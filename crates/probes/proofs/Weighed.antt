@@ -1,5 +1,5 @@
 -- What is on, as the words hold it, is what the rules say is on: so the verdicts are the rules' own. Assumes nothing.
-use Rattle.std.proofs.Common.{◌≡◌, ℕ, ◌+◌, ◌<◌, ◌≤◌, Bool, true, false, cond, not, ◌&&◌, ◌||◌, eqb, ◌⊎◌, List, [], ◌∷◌, ◌++◌, replicate, sym, subst, refl, ap, ◌∙◌, inl, inr, ⊎_elim, arith, eq-eqb, ne_eqb}
+use Rattle.std.proofs.Common.{◌≡◌, ℕ, ◌<◌, ◌≤◌, Bool, true, false, cond, not, ◌&&◌, ◌||◌, eqb, ◌⊎◌, List, [], ◌∷◌, ◌++◌, replicate, sym, subst, refl, ap, ◌∙◌, inl, inr, ⊎_elim, arith, eq-eqb, ne_eqb}
 use lib.ListN.{get_or-replicate}
 use borrow.Author.Tests.{not-true}
 use Rattle.rules.specs.Graphs.{Graph, Trail, end, go}
@@ -98,8 +98,10 @@ neighbours_in (a ∷ b ∷ l) u v e = look (occurs_either a b (neighbours (b ∷
     look : ((u ≡ a) × (v ≡ b)) ⊎ (occurs (neighbours (b ∷ l)) u v ≡ true)
         → (occurs (neighbours (b ∷ l)) u v ≡ true → (memb u (b ∷ l) ≡ true) × (memb v (b ∷ l) ≡ true))
         → (memb u (a ∷ b ∷ l) ≡ true) × (memb v (a ∷ b ∷ l) ≡ true)
-    look (inl (p, q)) ih = (subst (λ (y : ℕ). memb y (a ∷ b ∷ l) ≡ true) (sym p) (memb_self a (b ∷ l)),
-        memb_later v a (b ∷ l) (subst (λ (y : ℕ). memb y (b ∷ l) ≡ true) (sym q) (memb_self b l)))
+    look (inl (p, q)) ih = (
+      subst (λ (y : ℕ). memb y (a ∷ b ∷ l) ≡ true) (sym p) (memb_self a (b ∷ l)),
+      memb_later v a (b ∷ l) (subst (λ (y : ℕ). memb y (b ∷ l) ≡ true) (sym q) (memb_self b l)),
+    )
     look (inr o) ih = let (x, y) = ih o in (memb_later u a (b ∷ l) x, memb_later v a (b ∷ l) y)
 
 -- some pair passes

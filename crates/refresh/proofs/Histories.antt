@@ -1,6 +1,6 @@
 -- Demand 3: what holds after any history of calls. `history` at the end is the theorem; all above it shows that one call keeps what the
 -- store stands for. Assumes nothing.
-use Prim.Native.Nat.{ℕ, ◌+◌, ◌≤◌}
+use Prim.Native.Nat.{ℕ, ◌≤◌}
 use native.Mathlib.Omega.{arith}
 use mathlib.Core.Path.{◌≡◌, refl, sym, ap, subst, ◌∙◌}
 use mathlib.Core.Bool.{false}

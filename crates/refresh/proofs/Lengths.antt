@@ -1,5 +1,4 @@
 -- The words of a plan fill each slice up to its constant. Assumes nothing.
-use Prim.Native.Nat.{◌+◌}
 use native.Mathlib.Omega.{arith}
 use mathlib.Core.Path.{◌≡◌}
 use mathlib.Core.List.{◌++◌}

@@ -1,5 +1,5 @@
 -- What the matching of `differences` comes to. Assumes nothing.
-use Rattle.std.proofs.Common.{◌≡◌, ℕ, ◌+◌, ◌-◌, Bool, true, false, eqb, ◌⊎◌, List, [], ◌∷◌, refl, ◌∙◌, inl, inr, ⊎_elim, arith, ne_eqb, eqb-true}
+use Rattle.std.proofs.Common.{◌≡◌, ℕ, ◌+◌, Bool, true, false, eqb, ◌⊎◌, List, [], ◌∷◌, refl, ◌∙◌, inl, inr, ⊎_elim, arith, ne_eqb, eqb-true}
 use Rattle.rules.specs.Lists.{memb, keep}
 use Rattle.rules.specs.Scores.{times_in}
 use Rattle.rules.proofs.Ranges.{clash, pass, fail, test}

@@ -1,6 +1,6 @@
 -- The stored lists when edges are taken out and put in one by one: they are relisted as the rules say. One law for the lists of heads and
 -- for those of tails: `key` says where an edge stands in them. Assumes nothing.
-use Rattle.std.proofs.Common.{◌≡◌, ℕ, ◌+◌, ◌-◌, ◌<◌, Bool, true, false, cond, not, eqb, List, [], ◌∷◌, ◌++◌, map, sym, refl, ap, ◌∙◌, ⊎_elim, eq-eqb, eqb-true}
+use Rattle.std.proofs.Common.{◌≡◌, ℕ, ◌<◌, Bool, true, false, cond, not, eqb, List, [], ◌∷◌, ◌++◌, map, sym, refl, ap, ◌∙◌, ⊎_elim, eq-eqb, eqb-true}
 use lib.Seq.{set-get_or}
 use Rattle.rules.specs.Lists.{Pair, memb, keep, is_zero, times, same_pair}
 use Rattle.rules.specs.Sizes.{most_jobs}

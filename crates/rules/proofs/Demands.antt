@@ -1,5 +1,5 @@
 -- Demand 3 and the limits, of the plan after any history of calls: the last theorem here is what the others are for. Assumes nothing.
-use Prim.Native.Nat.{ℕ, ◌-◌, ◌<◌}
+use Prim.Native.Nat.{ℕ, ◌<◌}
 use mathlib.Core.Path.{◌≡◌, refl, subst}
 use mathlib.Core.Bool.{true, false}
 use mathlib.Core.Option.{none, some}

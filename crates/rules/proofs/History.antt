@@ -1,9 +1,9 @@
 -- Every history of calls, refused ones and waiting retractions included, leaves a sound plan or none. Assumes nothing.
-use Prim.Native.Nat.{ℕ, zero, suc, ◌+◌, ◌≤◌, ◌<◌}
+use Prim.Native.Nat.{ℕ, zero, suc, ◌≤◌, ◌<◌}
 use mathlib.Core.Path.{◌≡◌, refl, sym, ap, ◌∙◌}
 use mathlib.Core.Bool.{Bool, true, false, not, cond}
 use mathlib.Core.Option.{Option, none, some}
-use mathlib.Core.Logic.{◌⊎◌, ⊎_elim}
+use mathlib.Core.Logic.{⊎_elim}
 use mathlib.Core.List.{List, [], ◌∷◌, ◌++◌, map}
 use native.Mathlib.Omega.{arith}
 use lib.Dec.{eqb, ltb, leb}
@@ -11,7 +11,7 @@ use lib.ListN.{length, get_or, replicate, length-replicate}
 use borrow.Author.Tests.{eqb-true, leb-false, ltb-true, ltb-false, not-true, not-false}
 use Rattle.rules.specs.declared.Refusal.{Refusal}
 use Rattle.rules.specs.declared.Refusal.TheVariants.{ShortStore}
-use Rattle.rules.specs.Calls.{Ask, Call, Turn, accepted, checks_of, decide, reads, refusal, run, step, to_blocks, to_load, to_move, to_put, to_reset, to_retract, to_score, to_starts, to_verdict}
+use Rattle.rules.specs.Calls.{Ask, Call, Turn, accepted, checks_of, decide, refusal, run, step, to_blocks, to_load, to_move, to_put, to_reset, to_retract, to_score, to_starts, to_verdict}
 use Rattle.rules.specs.Lists.{Pair, any_of, is_zero, keep, memb, sum_of, times}
 use Rattle.rules.specs.Refusals.{Check, first_of, load_checks, no_owner, no_room, too_many}
 use Rattle.rules.specs.Routes.{Heads, Plan, Route, State, adds, empty_route, fresh, holders, in_force, links_of, put_plan, turned, wait}

@@ -15,7 +15,7 @@ use Rattle.rules.specs.Blocks.{arc, blocks, blocks_of, critical, latest}
 use Rattle.rules.specs.Calls.{Ask, Call, Reply, Turn, accepted, blocked, changed, counted, cycled, lined_up, refusal, refused}
 use Rattle.rules.specs.Calls.{reply, rerouted, run, scored, started, step, to_blocks, to_load, to_move, to_put, to_reset}
 use Rattle.rules.specs.Calls.{to_retract, to_score, to_starts, to_verdict}
-use Rattle.rules.specs.Lists.{Pair, first, is_some, times}
+use Rattle.rules.specs.Lists.{Pair, is_some}
 use Rattle.rules.specs.Moves.{good_positions, list_change}
 use Rattle.rules.specs.Refusals.{number_of}
 use Rattle.rules.specs.Reports.{put_report, put_walk, seeds}

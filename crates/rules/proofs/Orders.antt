@@ -1,7 +1,7 @@
 -- Line-ups and cycles of a graph: jobs 0 to n - 1, and a test `E u v`, "an edge leads from u to v".
 -- `order` takes, again and again, the lowest job none of whose predecessors remain. It answers the line_up that is lowest in dictionary order,
 -- or none; and then there is a cycle. Assumes nothing.
-use Prim.Native.Nat.{ℕ, zero, suc, ◌+◌, ◌≤◌, ◌<◌}
+use Prim.Native.Nat.{ℕ, zero, suc, ◌≤◌, ◌<◌}
 use mathlib.Core.Path.{◌≡◌, refl, sym, ap, ◌∙◌}
 use mathlib.Core.Bool.{Bool, true, false, ◌&&◌, cond}
 use mathlib.Core.Option.{Option, none, some, map}

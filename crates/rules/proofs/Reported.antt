@@ -12,7 +12,6 @@ use Rattle.rules.specs.Routes.{Plan, in_force, outs, put_plan}
 use Rattle.rules.specs.Scores.{floor_of, is_cyclic, starts}
 use Rattle.rules.specs.Sizes.{duration, most_entries}
 use Rattle.rules.specs.Sound.{Sound}
-use Rattle.rules.proofs.Cycles.{calm}
 use Rattle.rules.proofs.Plans.{ranks_of, starts_only, starts_solve}
 use Rattle.rules.proofs.Puts.{live_inside, put_sound, seeds_all, seeds_low, seeds_once}
 use Rattle.rules.proofs.Stages.{never}

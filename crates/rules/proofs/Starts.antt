@@ -8,7 +8,6 @@ use mathlib.Core.Logic.{◌⊎◌, inl, inr}
 use native.Mathlib.Omega.{arith}
 use native.Mathlib.Nat.{not-suc-le-zero, mul-le-mul_right}
 use Rattle.rules.specs.Graphs.{Graph, GreatestSum, Leads, along, here}
-use Rattle.rules.specs.Lists.{greatest}
 use Rattle.rules.specs.Scores.{best, start}
 use Rattle.rules.specs.Solved.{Rises, Solves}
 use Rattle.rules.proofs.Ranges.{greatest_at, greatest_lub, greatest_same, greatest_tests, greatest_ub, lt_or_le}

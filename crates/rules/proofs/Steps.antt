@@ -1,9 +1,9 @@
 -- A put, stage by stage, as a chain of plans: each waiting owner's route becomes empty, then the owner's own route the new one. Each plan on
 -- the way is sound, and how many entries are in force at the end can be told before. Assumes nothing.
-use Prim.Native.Nat.{ℕ, zero, suc, ◌+◌, ◌-◌, ◌≤◌, ◌<◌}
+use Prim.Native.Nat.{ℕ, zero, suc, ◌+◌, ◌≤◌, ◌<◌}
 use mathlib.Core.Path.{◌≡◌, refl, sym, ap, ◌∙◌}
 use mathlib.Core.Bool.{Bool, true, false, not, cond}
-use mathlib.Core.Logic.{◌⊎◌, ⊎_elim}
+use mathlib.Core.Logic.{⊎_elim}
 use mathlib.Core.List.{List, [], ◌∷◌, ◌++◌, map}
 use native.Mathlib.Omega.{arith}
 use native.Mathlib.Nat.{not-suc-le-zero}
@@ -11,7 +11,6 @@ use lib.Dec.{eqb}
 use lib.ListN.{length, get_or, set, length-set}
 use lib.Seq.{get_or-set_other}
 use borrow.Author.Tests.{eq-eqb, eqb-true, eqb-false}
-use Rattle.rules.specs.Calls.{reads}
 use Rattle.rules.specs.Lists.{Once, Pair, is_zero, memb, sum_of, times}
 use Rattle.rules.specs.Reports.{push}
 use Rattle.rules.specs.Routes.{Emptied, Plan, Route, emptied, empty, empty_route, exchange, holders, in_force, links_of, live, own_stage, put_plan, read, route_of, staged, without}

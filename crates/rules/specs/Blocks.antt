@@ -1,5 +1,5 @@
 -- "Critical blocks". "The blocks are written as records into a lent list": a record is the type `Block`.
-use Rattle.std.specs.Prelude.{ℕ, zero, suc, ◌+◌, ◌-◌, ◌≤◌, ◌<◌, ◌≡◌, Bool, true, false, cond, ◌&&◌, ◌||◌, List, [], ◌∷◌, ◌++◌, eqb, ltb, length, get_or}
+use Rattle.std.specs.Prelude.{ℕ, zero, suc, ◌-◌, ◌≤◌, ◌<◌, ◌≡◌, Bool, true, false, cond, ◌&&◌, ◌||◌, List, [], ◌∷◌, ◌++◌, eqb, ltb, length, get_or}
 use Rattle.rules.specs.declared.Block.{Block}
 use Rattle.rules.specs.Lists.{least}
 use Rattle.rules.specs.Graphs.{Graph}

@@ -1,6 +1,6 @@
 -- "Moves": the four route moves and both move checks. "A move answers the new route and both verdicts; the store stays." "The probe looks
 -- through a view of the live lists and copies none." (That is the code's; here `live` is the lists.)
-use Rattle.std.specs.Prelude.{ℕ, suc, ◌+◌, ◌-◌, ◌≡◌, Bool, true, false, not, cond, ◌&&◌, ◌||◌, List, [], ◌∷◌, ◌++◌, map, eqb, ltb, leb, length, get_or, take, drop}
+use Rattle.std.specs.Prelude.{ℕ, suc, ◌-◌, ◌≡◌, Bool, true, false, not, cond, ◌&&◌, ◌||◌, List, [], ◌∷◌, ◌++◌, map, eqb, ltb, leb, length, get_or, take, drop}
 use Rattle.rules.specs.Lists.{is_zero, is_some, distinct, all_below, nobody, Pair, times}
 use Rattle.rules.specs.Graphs.{Cycle, Graph}
 use Rattle.rules.specs.Sizes.{valid_fixed}

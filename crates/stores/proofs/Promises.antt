@@ -14,7 +14,7 @@ use Rattle.rules.specs.Lists.{memb}
 use Rattle.rules.specs.Sizes.{is_short, base_length, edges_length, routes_length, spans_length, times_length}
 use Rattle.rules.specs.Refusals.{first_of, number_of}
 use Rattle.rules.specs.Routes.{Plan, State}
-use Rattle.rules.specs.Calls.{Ask, Reply, refused, checks_of, refusal, accepted, reply, change_of}
+use Rattle.rules.specs.Calls.{Ask, Reply, refused, checks_of, refusal, accepted, change_of}
 use Rattle.rules.proofs.Ranges.{Test, pass, fail, test}
 use Rattle.rules.proofs.Refused.{refused_stays, accepted_step}
 use Rattle.edges.specs.Edges.{encode as edge_words}

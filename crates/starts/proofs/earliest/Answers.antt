@@ -1,4 +1,3 @@
-use Rattle.std.proofs.Common.{◌-◌}
 use Rattle.starts.proofs.Pulled.{pulling}
 use Rattle.starts.proofs.earliest.Goals as goal
 

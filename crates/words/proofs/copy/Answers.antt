@@ -1,4 +1,3 @@
-use Prim.Native.Nat.{◌-◌}
 use Rattle.words.proofs.Writes.{copy_none, slice_done, slice_next}
 use Rattle.words.proofs.copy.Goals as goal
 

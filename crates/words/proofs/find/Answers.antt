@@ -1,4 +1,3 @@
-use Prim.Native.Nat.{◌-◌}
 use Rattle.words.proofs.Searches.{find_hit, find_miss, find_none}
 use borrow.Author.Rules.{rules}
 use Rattle.words.proofs.find.Goals as goal

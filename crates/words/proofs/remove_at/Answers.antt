@@ -1,4 +1,3 @@
-use Prim.Native.Nat.{◌-◌}
 use Rattle.words.proofs.Sweeps.{remove_done, remove_long, remove_next, remove_none}
 use Rattle.words.proofs.remove_at.Goals as goal
 

@@ -1,4 +1,3 @@
-use Prim.Native.Nat.{◌-◌}
 use Rattle.words.proofs.Sweeps.{map_done, map_next, map_none}
 use Rattle.words.proofs.up_from.Goals as goal
 

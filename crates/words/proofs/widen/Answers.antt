@@ -1,5 +1,4 @@
 use native.Mathlib.Omega.{arith}
-use Prim.Native.Nat.{◌-◌}
 use Rattle.words.proofs.Writes.{copy_none, take_done, take_next}
 use Rattle.words.proofs.widen.Goals as goal
 

@@ -1,5 +1,4 @@
-use Rattle.std.proofs.Common.{◌≡◌, length, sym, ◌∙◌}
-use lib.ListN.{length-map}
+use Rattle.std.proofs.Common.{◌≡◌, length}
 use Rattle.rules.specs.Sizes.{most_jobs}
 use Rattle.blocks.proofs.Searching.{few_in, moved_on_lem, searching}
 use Rattle.blocks.proofs.blocks.next.Goals as goal

@@ -1,4 +1,3 @@
-use Rattle.std.proofs.Common.{◌-◌}
 use Rattle.blocks.proofs.Settling.{settling}
 use Rattle.blocks.proofs.critical.latest.Goals as goal
 

@@ -1,4 +1,3 @@
-use Rattle.std.proofs.Common.{◌-◌}
 use Rattle.blocks.proofs.Stepping.{stepping}
 use Rattle.blocks.proofs.owners.step.Goals as goal
 

@@ -1,4 +1,3 @@
-use Rattle.std.proofs.Common.{◌-◌}
 use Rattle.blocks.proofs.Running.{running}
 use Rattle.blocks.proofs.runs.first_critical.Goals as goal
 

@@ -1,4 +1,3 @@
-use Rattle.std.proofs.Common.{◌-◌}
 use Rattle.blocks.proofs.Running.{running}
 use Rattle.blocks.proofs.runs.has.Goals as goal
 

@@ -1,5 +1,3 @@
-use Prim.Native.Nat.{◌-◌}
-use mathlib.Core.Logic.{⊎_elim}
 use Rattle.edges.proofs.Gathers.{begins, e_same, ends, from_fits, going_as, ins_same, joined, out_same, passed_by, ready, tails_same}
 use Rattle.edges.proofs.fixed.gather.Goals as goal
 use Rattle.edges.proofs.fixed.gather.Goals.{then-v-n, else-v-n}
@@ -17,9 +15,9 @@ pub loop-i-preserved : goal.loop-i-preserved
 loop-i-preserved c =
     let few = c.requires.1 in
     elim c.if-v-n.branch [
-      then-v-n w ↦
-        going_as few w.e-is w.tails-is w.out-is w.ins-is w.t-is (joined few c.loop-i.invariant c.loop-i-test.true w.if-v-n.true w.join-t.ensures)
-    | else-v-n w ↦ going_as few w.e-is w.tails-is w.out-is w.ins-is w.t-is (passed_by few c.loop-i.invariant c.loop-i-test.true w.if-v-n.false)
+      | then-v-n w ↦
+          going_as few w.e-is w.tails-is w.out-is w.ins-is w.t-is (joined few c.loop-i.invariant c.loop-i-test.true w.if-v-n.true w.join-t.ensures)
+      | else-v-n w ↦ going_as few w.e-is w.tails-is w.out-is w.ins-is w.t-is (passed_by few c.loop-i.invariant c.loop-i-test.true w.if-v-n.false)
     ]
 
 pub shape_of-e : goal.shape_of-e

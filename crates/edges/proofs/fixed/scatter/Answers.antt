@@ -1,4 +1,3 @@
-use Prim.Native.Nat.{◌-◌}
 use Rattle.edges.proofs.Turns.{e_same, head_in, head_scaled, next_same, scattered, spread_more, spreading, tail_fits, tail_in}
 use borrow.Author.Rules.{rules}
 use Rattle.edges.proofs.fixed.scatter.Goals as goal

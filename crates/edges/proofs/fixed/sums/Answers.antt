@@ -1,4 +1,3 @@
-use Prim.Native.Nat.{◌-◌}
 use Rattle.edges.proofs.Sums.{next_fits, one_more, summed, summing, sums_long}
 use Rattle.edges.proofs.fixed.sums.Goals as goal
 

@@ -1,4 +1,3 @@
-use Prim.Native.Nat.{◌-◌}
 use Rattle.lines.proofs.Blocking.{blocking, listing_done}
 use Rattle.lines.proofs.critical.block_lines.Goals as goal
 

@@ -1,4 +1,3 @@
-use Prim.Native.Nat.{◌-◌}
 use borrow.Author.Rules.{rules}
 use Rattle.lines.proofs.Gathering.{gather_turn, gathering}
 use Rattle.lines.proofs.opens.gather.Goals as goal

@@ -1,4 +1,3 @@
-use Prim.Native.Nat.{◌-◌}
 use Rattle.lines.proofs.Filling.{filling}
 use Rattle.lines.proofs.steps.keep.Goals as goal
 

@@ -1,5 +1,3 @@
-use mathlib.Core.List.{[], ◌∷◌}
-use types.Run.{miss}
 use Rattle.lines.proofs.Stepping.{plan_missed, stepping}
 use Rattle.lines.proofs.steps.plan_line.Goals as goal
 

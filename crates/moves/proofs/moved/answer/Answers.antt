@@ -1,6 +1,5 @@
 use Rattle.moves.proofs.Promised.{moved_finished, moved_positions, moved_refused, ready}
 use Rattle.stores.proofs.Openings.{open_is}
-use borrow.Author.Tests.{not-false, not-true}
 use lib.ListN.{length-take}
 use mathlib.Core.Path.{refl, ◌∙◌}
 use native.Mathlib.Omega.{arith}

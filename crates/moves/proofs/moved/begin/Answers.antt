@@ -1,5 +1,4 @@
 use Rattle.moves.proofs.Promised.{begins_broken, begins_closed, begins_nobody, begins_of}
-use borrow.Author.Tests.{not-false, not-true}
 use Rattle.stores.proofs.Openings.{open_is}
 use lib.ListN.{length-take}
 use mathlib.Core.Path.{sym, ◌∙◌}

@@ -40,16 +40,15 @@ pub is_cyclic-requires : goal.is_cyclic-requires
 is_cyclic-requires c = search judging
 
 pub check-c-requires : goal.check-c-requires
-check-c-requires c =
-    (
-      search (rules, parts_even),
-      search rules,
-      search (rules, count_few),
-      search (rules, front_few),
-      search (rules, front_few),
-      tested c.are_jobs.ensures (ap not c.if-not-are_jobs.false),
-      tested c.are_jobs-2.ensures (ap not c.if-not-are_jobs-2.false),
-    )
+check-c-requires c = (
+  search (rules, parts_even),
+  search rules,
+  search (rules, count_few),
+  search (rules, front_few),
+  search (rules, front_few),
+  tested c.are_jobs.ensures (ap not c.if-not-are_jobs.false),
+  tested c.are_jobs-2.ensures (ap not c.if-not-are_jobs-2.false),
+)
 
 pub widen-requires : goal.widen-requires
 widen-requires c = search judging

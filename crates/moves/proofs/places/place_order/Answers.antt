@@ -1,5 +1,4 @@
 use Rattle.moves.proofs.Positions.{order_far, order_list, order_made, order_not, order_order}
-use borrow.Author.Tests.{not-false, not-true}
 use native.Mathlib.Omega.{arith}
 use Rattle.moves.proofs.places.place_order.Goals as goal
 

@@ -1,4 +1,3 @@
-use Prim.Native.Nat.{◌-◌}
 use native.Mathlib.Omega.{arith}
 use Rattle.moves.proofs.Listed.{tested_end, tested_far, tested_next, tested_seen, tested_short, tested_start}
 use Rattle.moves.proofs.reroute.is_permutation.Goals as goal

@@ -1,4 +1,3 @@
-use Prim.Native.Nat.{◌-◌}
 use native.Mathlib.Omega.{arith}
 use Rattle.moves.proofs.Laid.{fill_end, fill_next, fill_start, place_at}
 use Rattle.moves.proofs.reroute.permute.Goals as goal

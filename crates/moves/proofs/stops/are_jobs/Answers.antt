@@ -1,5 +1,4 @@
 use Rattle.moves.proofs.Halved.{testing_bad, testing_done, testing_next, testing_none}
-use Prim.Native.Nat.{◌-◌}
 use Rattle.moves.proofs.stops.are_jobs.Goals as goal
 
 -- `are_jobs`. Assumes nothing.

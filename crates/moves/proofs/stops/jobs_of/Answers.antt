@@ -1,4 +1,3 @@
-use Prim.Native.Nat.{◌-◌}
 use Rattle.moves.proofs.Halved.{halving}
 use Rattle.moves.proofs.stops.jobs_of.Goals as goal
 

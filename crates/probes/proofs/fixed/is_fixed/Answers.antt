@@ -1,4 +1,3 @@
-use Rattle.std.proofs.Common.{◌-◌}
 use Rattle.probes.proofs.Sought.{pass_end, pass_high, pass_hit, seeking}
 use Rattle.probes.proofs.fixed.is_fixed.Goals as goal
 

@@ -1,4 +1,3 @@
-use Rattle.std.proofs.Common.{◌-◌}
 use Rattle.probes.proofs.Sought.{seeking}
 use Rattle.probes.proofs.fixed.lower.Goals as goal
 

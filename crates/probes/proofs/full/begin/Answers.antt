@@ -1,4 +1,3 @@
-use Rattle.std.proofs.Common.{◌-◌}
 use Rattle.probes.proofs.Lineups.{beginning}
 use Rattle.probes.proofs.full.begin.Goals as goal
 

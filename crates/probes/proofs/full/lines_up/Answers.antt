@@ -1,4 +1,3 @@
-use Rattle.std.proofs.Common.{◌-◌}
 use Rattle.probes.proofs.Lineups.{lining_up}
 use Rattle.probes.proofs.full.lines_up.Goals as goal
 

@@ -1,4 +1,3 @@
-use Rattle.std.proofs.Common.{◌-◌}
 use Rattle.probes.proofs.Tallying.{tallying}
 use Rattle.probes.proofs.full.tally.Goals as goal
 

@@ -1,4 +1,3 @@
-use Rattle.std.proofs.Common.{◌-◌}
 use Rattle.probes.proofs.Nexts.{looking}
 use Rattle.probes.proofs.heads.head_from.Goals as goal
 

@@ -1,4 +1,3 @@
-use Rattle.std.proofs.Common.{◌-◌}
 use Rattle.probes.proofs.Backways.{spreading}
 use Rattle.probes.proofs.quick.leads.Goals as goal
 

@@ -1,4 +1,3 @@
-use Rattle.std.proofs.Common.{◌-◌}
 use Rattle.probes.proofs.Backways.{trying}
 use Rattle.probes.proofs.quick.turns.Goals as goal
 

@@ -1,4 +1,3 @@
-use Rattle.std.proofs.Common.{◌-◌}
 use Rattle.probes.proofs.Turning.{seeking_row}
 use Rattle.probes.proofs.sets.among.Goals as goal
 

@@ -1,4 +1,3 @@
-use Rattle.std.proofs.Common.{◌-◌}
 use Rattle.probes.proofs.Chaining.{linking}
 use Rattle.probes.proofs.sets.turned_off.Goals as goal
 

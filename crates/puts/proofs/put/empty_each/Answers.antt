@@ -1,4 +1,3 @@
-use Prim.Native.Nat.{◌-◌}
 use Rattle.puts.proofs.GivingUp.{emptying_each}
 use Rattle.puts.proofs.put.empty_each.Goals as goal
 

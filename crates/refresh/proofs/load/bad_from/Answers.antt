@@ -1,4 +1,3 @@
-use Prim.Native.Nat.{◌-◌}
 use Rattle.refresh.proofs.Checking.{rising_none, from_high, from_falls, from_turn, from_done}
 use Rattle.refresh.proofs.load.bad_from.Goals as goal
 

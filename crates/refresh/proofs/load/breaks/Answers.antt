@@ -2,7 +2,6 @@ use mathlib.Core.Path.{ap, sym, ◌∙◌}
 use mathlib.Core.Bool.{not}
 use Prim.Native.Nat.{ℕ}
 use lib.Dec.{eqb}
-use borrow.Author.Tests.{not-true, not-false}
 use Rattle.refresh.proofs.Checking.{breaks_fixed, breaks_counts, breaks_pairs, breaks_durations, breaks_none, breaks_expected}
 use Rattle.refresh.proofs.load.breaks.Goals as goal
 

@@ -1,4 +1,3 @@
-use Prim.Native.Nat.{◌-◌}
 use mathlib.Core.Path.{refl, sym, ◌∙◌}
 use Rattle.refresh.proofs.Checking.{any_hit, any_turn, any_done}
 use Rattle.refresh.proofs.load.has_long.Goals as goal

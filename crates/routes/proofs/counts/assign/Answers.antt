@@ -1,4 +1,3 @@
-use Rattle.std.proofs.Common.{◌-◌}
 use Rattle.routes.proofs.Tallying.{assigning}
 use Rattle.routes.proofs.counts.assign.Goals as goal
 

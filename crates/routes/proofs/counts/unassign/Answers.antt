@@ -1,4 +1,3 @@
-use Rattle.std.proofs.Common.{◌-◌}
 use Rattle.routes.proofs.Tallying.{unassigning}
 use Rattle.routes.proofs.counts.unassign.Goals as goal
 

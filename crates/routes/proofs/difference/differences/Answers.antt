@@ -1,4 +1,4 @@
-use Rattle.std.proofs.Common.{◌-◌, arith, length-set}
+use Rattle.std.proofs.Common.{arith, length-set}
 use Rattle.routes.proofs.Matching.{matching, matching_miss}
 use Rattle.routes.proofs.difference.differences.Goals as goal
 

@@ -1,4 +1,3 @@
-use Rattle.std.proofs.Common.{◌-◌}
 use Rattle.routes.proofs.Linking.{linking}
 use Rattle.routes.proofs.difference.links_of.Goals as goal
 

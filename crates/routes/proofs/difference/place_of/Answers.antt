@@ -1,4 +1,3 @@
-use Rattle.std.proofs.Common.{◌-◌}
 use Rattle.routes.proofs.Seating.{seating}
 use Rattle.routes.proofs.difference.place_of.Goals as goal
 

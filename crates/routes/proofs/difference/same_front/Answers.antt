@@ -1,4 +1,3 @@
-use Rattle.std.proofs.Common.{◌-◌}
 use Rattle.routes.proofs.Common.{commons}
 use Rattle.routes.proofs.difference.same_front.Goals as goal
 

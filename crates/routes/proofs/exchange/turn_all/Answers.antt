@@ -1,4 +1,3 @@
-use Rattle.std.proofs.Common.{◌-◌}
 use Rattle.routes.proofs.Sweeping.{sweep_on, sweeping}
 use Rattle.routes.proofs.exchange.turn_all.Goals as goal
 

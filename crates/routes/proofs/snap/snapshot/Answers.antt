@@ -1,4 +1,3 @@
-use Rattle.std.proofs.Common.{◌-◌}
 use Rattle.routes.proofs.Snaps.{snapping}
 use Rattle.routes.proofs.snap.snapshot.Goals as goal
 

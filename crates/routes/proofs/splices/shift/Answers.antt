@@ -1,4 +1,3 @@
-use Rattle.std.proofs.Common.{◌-◌}
 use Rattle.words.proofs.Sweeps.{map_done, map_next, map_none}
 use Rattle.routes.proofs.splices.shift.Goals as goal
 

@@ -1,4 +1,3 @@
-use Rattle.std.proofs.Common.{◌-◌}
 use Rattle.routes.proofs.Waits.{freeing}
 use Rattle.routes.proofs.wait.freed.Goals as goal
 

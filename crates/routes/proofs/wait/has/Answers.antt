@@ -1,4 +1,3 @@
-use Rattle.std.proofs.Common.{◌-◌}
 use Rattle.routes.proofs.Waits.{seeing}
 use Rattle.routes.proofs.wait.has.Goals as goal
 

@@ -1,4 +1,3 @@
-use Rattle.std.proofs.Common.{◌-◌}
 use Rattle.shown.proofs.Cycled.{cycling}
 use Rattle.shown.proofs.cycles.lowest.Goals as goal
 

@@ -1,4 +1,3 @@
-use Rattle.std.proofs.Common.{◌-◌}
 use Rattle.shown.proofs.Distanced.{distancing}
 use Rattle.shown.proofs.distances.meets.Goals as goal
 

@@ -1,4 +1,3 @@
-use Rattle.std.proofs.Common.{◌-◌}
 use Rattle.shown.proofs.Lowed.{lowering}
 use Rattle.shown.proofs.lowests.lessens.Goals as goal
 

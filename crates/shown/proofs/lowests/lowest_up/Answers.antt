@@ -1,4 +1,3 @@
-use Rattle.std.proofs.Common.{◌-◌}
 use Rattle.shown.proofs.Lowed.{drawing_none, lowering}
 use Rattle.shown.proofs.lowests.lowest_up.Goals as goal
 

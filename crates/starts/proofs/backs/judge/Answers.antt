@@ -1,4 +1,3 @@
-use Rattle.std.proofs.Common.{◌-◌}
 use Rattle.starts.proofs.Backed.{backing}
 use Rattle.starts.proofs.backs.judge.Goals as goal
 

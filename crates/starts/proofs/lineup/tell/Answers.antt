@@ -1,4 +1,3 @@
-use Rattle.std.proofs.Common.{◌-◌}
 use Rattle.starts.proofs.Lining.{lining}
 use Rattle.starts.proofs.lineup.tell.Goals as goal
 

@@ -1,4 +1,3 @@
-use Rattle.std.proofs.Common.{◌-◌}
 use Rattle.starts.proofs.Queueing.{queueing}
 use Rattle.starts.proofs.queues.joins.Goals as goal
 

@@ -1,4 +1,3 @@
-use Prim.Native.Nat.{◌-◌}
 use native.Mathlib.Omega.{arith}
 use Rattle.stores.proofs.Laying.{stray_none, stray_turn, stray_done}
 use Rattle.stores.proofs.base.invalid_fixed.Goals as goal

@@ -2,7 +2,7 @@ use Prim.Native.Nat.{◌<◌}
 use native.Mathlib.Omega.{arith}
 use mathlib.Core.Path.{sym, ◌∙◌}
 use lib.ListN.{length-take}
-use borrow.Author.Tests.{ltb-true, not-true, not-false}
+use borrow.Author.Tests.{ltb-true}
 use Rattle.stores.proofs.Openings.{open_is}
 use Rattle.stores.proofs.Retracting.{retract_closed, retract_nobody, retract_waits, retract_bad}
 use Rattle.stores.proofs.retract.retract.Goals as goal

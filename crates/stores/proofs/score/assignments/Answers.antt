@@ -1,4 +1,3 @@
-use Prim.Native.Nat.{◌-◌}
 use Rattle.stores.proofs.Summing.{count_none, count_turn, count_done}
 use Rattle.stores.proofs.score.assignments.Goals as goal
 

@@ -1,4 +1,3 @@
-use Prim.Native.Nat.{◌-◌}
 use Rattle.stores.proofs.Summing.{sum_none, sum_turn, sum_done}
 use native.Mathlib.Omega.{arith}
 use borrow.Author.Rules.{rules}

@@ -1,4 +1,3 @@
-use Prim.Native.Nat.{◌-◌}
 use Rattle.text.proofs.Pieces.{fielding}
 use Rattle.text.proofs.answers.jobs_of.Goals as goal
 

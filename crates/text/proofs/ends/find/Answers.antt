@@ -1,4 +1,3 @@
-use Prim.Native.Nat.{◌-◌}
 use Rattle.text.proofs.LineEnds.{searches}
 use Rattle.text.proofs.ends.find.Goals as goal
 

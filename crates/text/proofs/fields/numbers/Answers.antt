@@ -1,4 +1,3 @@
-use Prim.Native.Nat.{◌-◌}
 use Rattle.text.proofs.Gathers.{gather_room, gathers}
 use Rattle.text.proofs.fields.numbers.Goals as goal
 

@@ -1,4 +1,3 @@
-use Prim.Native.Nat.{◌-◌}
 use native.Mathlib.Omega.{arith}
 use Rattle.text.proofs.Scans.{scan_wide, scans}
 use Rattle.text.proofs.fields.rest_of.Goals as goal

@@ -1,4 +1,3 @@
-use Prim.Native.Nat.{◌-◌}
 use Rattle.text.proofs.Namings.{namings}
 use Rattle.text.proofs.vocabulary.begins.Goals as goal
 

@@ -1,4 +1,3 @@
-use Prim.Native.Nat.{◌-◌}
 use Rattle.text.proofs.Tabled.{tabled}
 use Rattle.text.proofs.vocabulary.first_of.Goals as goal
 

@@ -1,4 +1,3 @@
-use Prim.Native.Nat.{◌-◌}
 use Rattle.text.proofs.Pieces.{copies}
 use Rattle.text.proofs.writes.bytes.Goals as goal
 

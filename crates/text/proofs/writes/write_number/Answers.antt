@@ -1,4 +1,3 @@
-use Prim.Native.Nat.{◌-◌}
 use Rattle.text.proofs.Placing.{places}
 use Rattle.text.proofs.writes.write_number.Goals as goal
 

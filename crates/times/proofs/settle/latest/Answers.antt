@@ -1,4 +1,3 @@
-use Rattle.std.proofs.Common.{◌-◌}
 use Rattle.times.proofs.Settling.{settling}
 use Rattle.times.proofs.settle.latest.Goals as goal
 

@@ -1,4 +1,3 @@
-use Prim.Native.Nat.{◌-◌}
 use Rattle.words.proofs.Writes.{copy_none, take_done, take_next}
 use Rattle.words.proofs.u32s.copy.Goals as goal
 

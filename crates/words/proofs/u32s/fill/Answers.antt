@@ -1,4 +1,3 @@
-use Prim.Native.Nat.{◌-◌}
 use Rattle.words.proofs.Writes.{fill_done, fill_next, fill_none}
 use Rattle.words.proofs.u32s.fill.Goals as goal
 
