@@ -1,4 +1,4 @@
-//! Links libcapi.a from the folder that NOTEKARIP_LIB names, else from the repository's target.
+//! Links libcapi.a from the folder that NOTEKARIP_LIB names, else from where the repository builds it.
 
 use std::env;
 use std::path::{Path, PathBuf};
@@ -10,7 +10,7 @@ fn main() {
     println!("cargo:rerun-if-changed={}", archive.display());
     assert!(
         archive.exists(),
-        "{} is missing: `rt staticlib capi` writes it",
+        "{} is missing: `rt lib` in crates/capi writes it",
         archive.display()
     );
     println!("cargo:rustc-link-search=native={}", folder.display());
@@ -22,5 +22,5 @@ fn folder() -> PathBuf {
         return named.into();
     }
     let crate_folder = env::var_os("CARGO_MANIFEST_DIR").expect("cargo names the crate's folder");
-    Path::new(&crate_folder).join("../../target/staticlib")
+    Path::new(&crate_folder).join("../../crates/capi/out")
 }

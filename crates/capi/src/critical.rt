@@ -1,4 +1,4 @@
-// The critical blocks. The lent list of records makes this the one call that is walked by hand.
+// The critical blocks, as records in a lent list.
 ghost use Rattle.stores.specs.Promise.{slices};
 ghost use Rattle.capi.specs.Numbers.{AnswersBlocks};
 

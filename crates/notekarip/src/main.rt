@@ -2,11 +2,10 @@
 // The lines up to `go` only fill tables; `go` loads them, and each later line is a call (crate lines).
 #![tactic(auto)]
 
-ghost use Rattle.std.specs.Prelude.{◌≤◌, length};
+ghost use Rattle.std.specs.Prelude.{◌≤◌, length, IfOk};
 ghost use Rattle.lines.specs.Sizes.{input_limit};
 ghost use Rattle.lines.specs.Steps.{Within};
 
-use libc::{STDIN_FILENO, STDOUT_FILENO};
 use lines::goes::{go, loaded};
 use lines::opens::{Gathered, gather};
 use lines::steps::Typed;
@@ -14,11 +13,14 @@ use lines::turns::answer_line;
 use lines::{ANSWER, FIXES, INPUT, NUMBERS};
 use refresh::score::Scored;
 use rules::Plan;
+use std::io;
+use std::io::{ErrorKind, Read, Write};
 use text::answers::{SHORT, bad};
 use text::fields::narrow;
 
 // The lines behind `go`, of which `before` came before. What a line answers goes out before the next one is read; if it can't, the run ends.
-fn serve(
+fn serve<W: Write>(
+    output: &mut W,
     input: &[u8],
     before: u64,
     owners: u32,
@@ -27,7 +29,7 @@ fn serve(
     edges: &mut [u16],
     routes: &mut [u16],
     times: &mut [u64],
-)
+) -> io::Result<()>
     requires { (length input.now ≤ input_limit) × (before ≤ input_limit) }
 {
     let mut space = [0u8; ANSWER];
@@ -40,22 +42,29 @@ fn serve(
             input, at, line, owners, base, spans, edges, routes, times, out,
         );
         let n = t.bytes;
-        if !io::write_all(STDOUT_FILENO, &out[..n]) {
-            return;
-        }
+        output.write_all(&out[..n])?;
         at = t.next;
     }
+    Ok(())
 }
 
-// The answer to `go`. False if it can't go out.
-fn begun(answer: Scored) -> bool {
+// The answer to `go`.
+fn begun<W: Write>(output: &mut W, answer: Scored) -> io::Result<()> {
     let mut out = [0u8; SHORT];
     let n = loaded(answer, &mut out);
-    io::write_all(STDOUT_FILENO, &out[..n])
+    output.write_all(&out[..n])
 }
 
 // `go`, on a store that is zeroed, and the lines behind it.
-fn open(input: &[u8], line: u64, plan: Typed, durations: &[u64], from: &[u32], to: &[u32])
+fn open<W: Write>(
+    output: &mut W,
+    input: &[u8],
+    line: u64,
+    plan: Typed,
+    durations: &[u64],
+    from: &[u32],
+    to: &[u32],
+) -> io::Result<()>
     requires { (length input.now ≤ input_limit) × (line ≤ input_limit) × Within plan durations.now from.now to.now }
 {
     let mut base = [0u32; Plan::BASE];
@@ -74,48 +83,78 @@ fn open(input: &[u8], line: u64, plan: Typed, durations: &[u64], from: &[u32], t
         from,
         to,
     );
-    if begun(answer) {
-        serve(
-            input,
-            line,
-            narrow(plan.owners),
-            &base,
-            &spans,
-            &mut edges,
-            &mut routes,
-            &mut times,
-        );
-    }
+    begun(output, answer)?;
+    serve(
+        output,
+        input,
+        line,
+        narrow(plan.owners),
+        &base,
+        &spans,
+        &mut edges,
+        &mut routes,
+        &mut times,
+    )
 }
 
 // The only answer to lines that don't come to a `go`.
-fn refuse(line: u64) {
+fn refuse<W: Write>(output: &mut W, line: u64) -> io::Result<()> {
     let mut out = [0u8; SHORT];
     let n = bad(&mut out, line);
-    io::write_all(STDOUT_FILENO, &out[..n]);
+    output.write_all(&out[..n])
 }
 
 // What the lines come to.
-fn run(input: &[u8])
+fn run<W: Write>(output: &mut W, input: &[u8]) -> io::Result<()>
     requires { length input.now ≤ input_limit }
 {
     let mut durations = [0u64; NUMBERS];
     let mut from = [0u32; FIXES];
     let mut to = [0u32; FIXES];
     match gather(input, &mut durations, &mut from, &mut to) {
-        Gathered::Ends => {}
-        Gathered::Bad(line) => refuse(line),
-        Gathered::Go(plan, at, line) => open(&input[at..], line, plan, &durations, &from, &to),
+        Gathered::Ends => Ok(()),
+        Gathered::Bad(line) => refuse(output, line),
+        Gathered::Go(plan, at, line) => open(
+            output,
+            &input[at..],
+            line,
+            plan,
+            &durations,
+            &from,
+            &to,
+        ),
     }
 }
 
-// One byte more than the limit is asked for, so that a longer input shows.
-fn main() {
-    let mut input = [0u8; INPUT + 1];
-    let n = io::read_full(STDIN_FILENO, &mut input);
-    if INPUT < n {
-        refuse(0);
-        return;
+// Reads until the places are full or the input ends, and answers how many bytes stand in front then. A read that a signal interrupts is made again.
+fn read_full<R: Read>(from: &mut R, input: &mut [u8]) -> io::Result<usize>
+    ensures { IfOk result (λ n. n ≤ length input.new) }
+{
+    let mut n: usize = 0;
+    for _ in 0..u64::MAX {
+        if input.len() <= n {
+            return Ok(n);
+        }
+        match from.read(&mut input[n..]) {
+            Ok(0) => return Ok(n),
+            Ok(k) => n += k,
+            Err(e) => {
+                if e.kind() != ErrorKind::Interrupted {
+                    return Err(e);
+                }
+            }
+        }
     }
-    run(&input[..n]);
+    Ok(n)
+}
+
+// One byte more than the limit is asked for, so that a longer input shows.
+fn main(rt: HostRuntime) -> io::Result<()> {
+    let mut output = rt.stdout();
+    let mut input = [0u8; INPUT + 1];
+    let n = read_full(&mut rt.stdin(), &mut input)?;
+    if INPUT < n {
+        return refuse(&mut output, 0);
+    }
+    run(&mut output, &input[..n])
 }

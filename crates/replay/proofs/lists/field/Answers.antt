@@ -1,4 +1,4 @@
-use native.Mathlib.Omega.{arith}
+use Rattle.std.proofs.Common.{arith}
 use Rattle.replay.proofs.Ahead.{sooner}
 use Rattle.replay.proofs.lists.field.Goals as goal
 
