@@ -18,6 +18,7 @@ pub fn broad(x: u32) -> usize
 }
 
 // Jobs, owners and fixed pairs of a loaded store.
+#[tactic(auto, using(crate::proofs::Openings::unloaded, crate::proofs::Openings::mismarked, crate::proofs::Openings::headed, crate::proofs::Openings::oversized))]
 fn told(base: &[u32]) -> Header
     requires { base_length ≤ length base.now }
     ensures { result ≡ header_of base.now }
