@@ -1,4 +1,4 @@
--- Where the five tables lie in the slice of `edgesLength` words, and how long each is. Assumes nothing.
+-- Where the five tables lie in the slice of `edges_length` words, and how long each is. Assumes nothing.
 use Rattle.std.specs.Prelude.{ℕ, ◌+◌}
 use Rattle.rules.specs.Sizes.{most_jobs}
 

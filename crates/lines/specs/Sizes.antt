@@ -15,7 +15,7 @@ most_numbers = input_limit / 2
 abbrev pub most_fixes : ℕ
 most_fixes = input_limit / 8
 
--- the longest answer is that of `crit`: a line, and one for each block, of `lineLength 5 4` bytes at most
+-- the longest answer is that of `crit`: a line, and one for each block, of `line_length 5 4` bytes at most
 abbrev pub longest_answer : ℕ
 longest_answer = 96 * most_entries
 

@@ -12,10 +12,10 @@ use Rattle.routes.specs.Snapped.{strayed, Stated, Snapped}
 -- ── one job ──
 
 -- the default of a look-up inside the list
-get_d_any : (l : List ℕ) (i d e : ℕ) → i < length l → get_or l i d ≡ get_or l i e
-get_d_any [] i d e h = absurd (omega arith)
-get_d_any (x ∷ l) zero d e h = refl
-get_d_any (x ∷ l) (suc i) d e h = get_d_any l i d e (omega arith)
+get_or_any : (l : List ℕ) (i d e : ℕ) → i < length l → get_or l i d ≡ get_or l i e
+get_or_any [] i d e h = absurd (omega arith)
+get_or_any (x ∷ l) zero d e h = refl
+get_or_any (x ∷ l) (suc i) d e h = get_or_any l i d e (omega arith)
 
 -- what `strays` answers
 abbrev Strays : List ℕ → ℕ → ℕ → ℕ → Type 0
@@ -26,16 +26,16 @@ stated_none l o h = rw (get_or-eq_default l nobodys h)
 
 module _ (l : List ℕ) (o : ℕ) {v : ℕ} (h : v < length l) where
   pub stated_nobody : get_or l v 0 ≡ nobodys → Strays l o v 0
-  stated_nobody e = rw (get_d_any l v nobodys 0 h, e)
+  stated_nobody e = rw (get_or_any l v nobodys 0 h, e)
 
   pub stated_own : get_or l v 0 ≡ o → Strays l o v 0
-  stated_own e = rw (get_d_any l v nobodys 0 h, eq-eqb (get_or l v 0) o e) (elim (test (eqb (get_or l v 0) nobodys)) [
+  stated_own e = rw (get_or_any l v nobodys 0 h, eq-eqb (get_or l v 0) o e) (elim (test (eqb (get_or l v 0) nobodys)) [
     | pass z ↦ rw z
     | fail z ↦ rw z
   ])
 
   pub stated_other : (get_or l v 0 ≡ nobodys → ⊥) → (get_or l v 0 ≡ o → ⊥) → Strays l o v 1
-  stated_other a b = rw (get_d_any l v nobodys 0 h, ne_eqb (get_or l v 0) nobodys a, ne_eqb (get_or l v 0) o b)
+  stated_other a b = rw (get_or_any l v nobodys 0 h, ne_eqb (get_or l v 0) nobodys a, ne_eqb (get_or l v 0) o b)
 
 pub ruleset stating = (rules, stated_none, stated_nobody, stated_own, stated_other)
 

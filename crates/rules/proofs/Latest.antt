@@ -1,4 +1,4 @@
--- Latest starts. `latestBy n E d m k` looks at paths of at most k edges; on a graph without cycles, with k = n, it is the one solution of
+-- Latest starts. `latest_by n E d m k` looks at paths of at most k edges; on a graph without cycles, with k = n, it is the one solution of
 -- the equations "latest(v) is the least latest(w) of v's successors w, or m if there is none, minus d(v)". The subtraction is never cut
 -- off: starting at its earliest a job ends by then. Assumes nothing.
 use Prim.Native.Nat.{ℕ, zero, suc, ◌+◌, ◌-◌, ◌≤◌, ◌<◌, min}

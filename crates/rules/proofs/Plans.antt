@@ -1,5 +1,5 @@
 -- The laws on graphs, of a plan: what its verdict says, what is shown of it, and that its starts are the greatest duration sums.
--- `isCyclic`, `starts` and the two that are shown are shut elsewhere: whoever asks something of a plan cites this file. Assumes nothing.
+-- `is_cyclic`, `starts` and the two that are shown are shut elsewhere: whoever asks something of a plan cites this file. Assumes nothing.
 use Prim.Native.Nat.{ℕ, ◌<◌}
 use mathlib.Core.Path.{◌≡◌, refl, ap}
 use mathlib.Core.Bool.{true, false, not}

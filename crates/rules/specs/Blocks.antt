@@ -55,7 +55,7 @@ blocks_over p (o ∷ os) = cond (ltb o p.base.owners) (blocks_of p o ++ blocks_o
 unfoldable pub blocks : Plan → List ℕ → List Block
 blocks p os = cond (is_cyclic p) [] (blocks_over p os)
 
--- ── what a block is, by its sentence: the answered blocks are just these, each once, rising (proofs/Runs: `blocks-sound`, `blocks-complete`, `blocks-rising`) ──
+-- ── what a block is, by its sentence: the answered blocks are just these, each once, rising (proofs/Runs: `blocks_sound`, `blocks_complete`, `blocks_rising`) ──
 
 module _ (arcs : Graph) (l : List ℕ) where
   -- an arc leads from the job at place i to the one at the next place

@@ -1,4 +1,4 @@
--- Demand 3 and the limits: what holds of the plan after any history of calls (proofs/Demands, `history-stands`).
+-- Demand 3 and the limits: what holds of the plan after any history of calls (proofs/Demands, `history_stands`).
 use Rattle.std.specs.Prelude.{ℕ, ◌+◌, ◌-◌, ◌*◌, ◌≤◌, ◌<◌, ◌≡◌, true, false, ◌⊎◌, ◌↔◌, List, length}
 use Rattle.std.proofs.Math.Option.{some}
 use Rattle.rules.specs.Lists.{sum_of}

@@ -1,4 +1,4 @@
--- "given exactly if": when a refusal is given, and the order of the tests (proofs/Refused: `refusal-given`, `refusal-none`, `in_order`).
+-- "given exactly if": when a refusal is given, and the order of the tests (proofs/Refused: `refusal_given`, `refusal_none`, `in_order`).
 use Rattle.std.specs.Prelude.{ℕ, ◌≡◌, Bool, true, false, cond, List, [], ◌∷◌, eqb}
 use Rattle.rules.specs.declared.Refusal.{Refusal}
 use Rattle.rules.specs.declared.Refusal.TheVariants.{ShortStore}

@@ -115,7 +115,7 @@ is_moved_cyclic p o m = full_check p.base.jobs (moved_on p o m)
 unfoldable pub is_moved_quick : Plan → ℕ → Move → Bool
 is_moved_quick p o m = quick_check p.base.jobs (moved_on p o m) (moved_stays p o m)
 
--- ── when the quick check says yes, by its sentence (proofs/Checks: `quick-check`; the full one: `full-check`) ──
+-- ── when the quick check says yes, by its sentence (proofs/Checks: `quick_check_lem`; the full one: `full_check_lem`) ──
 
 -- of the cycle that l lists from v: from each job to the next, and from the last back to v
 abbrev pub steps_of : ℕ → List ℕ → List Pair

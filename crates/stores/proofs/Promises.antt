@@ -116,12 +116,12 @@ module _ {A : Type 0} (a : Ask) (s : Slices) {h : Header} (opens : h ≡ open_of
     zero = λ k q. ap change_of q;
   }
 
-  module _ (None-first : refused_by h a ≡ none) {s' : Slices} {out out' : List A} {r : Reply} where
+  module _ (none_first : refused_by h a ≡ none) {s' : Slices} {out out' : List A} {r : Reply} where
     -- they do not: what is refused then
     pub heeds_later : ((k : Refusal) → r ≡ refused k → memb (number_of k) (12 ∷ later_of a) ≡ true)
         → ((k : Refusal) → r ≡ refused k → (k ≡ BadStore → ⊥) → (s' ≡ s) × (out' ≡ out)) → Heeds a s s' out out' r
     heeds_later l k = record {
-      first = λ k f. none_some None-first (ap (λ (h : Header). refused_by h a) opens ∙ f);
+      first = λ k f. none_some none_first (ap (λ (h : Header). refused_by h a) opens ∙ f);
       later = λ f. l;
       stays = k;
       zero = λ k q. ap change_of q;
