@@ -2,9 +2,15 @@
 // The lines up to `go` only fill tables; `go` loads them, and each later line is a call (crate lines).
 #![tactic(auto)]
 
-ghost use Rattle.std.specs.Prelude.{◌≤◌, length, IfOk};
+ghost use Rattle.std.specs.Prelude.{◌≤◌, ◌<◌, length, take, IfOk, OnOk, IfSome};
+ghost use Rattle.std.specs.Io.KnownBytes.{Appends, Consumes, IsAtEnd};
+ghost use Rattle.text.specs.Answers.{reply_text, bad_line};
+ghost use Rattle.stores.specs.Promise.{slices};
+ghost use Rattle.stores.specs.Says.{says_scored};
 ghost use Rattle.lines.specs.Sizes.{input_limit};
 ghost use Rattle.lines.specs.Steps.{Within};
+ghost use Rattle.lines.specs.Session.{RunPrints};
+ghost use Rattle.notekarip.specs.Prints.{Prints, Answers, Opened};
 
 use lines::goes::{go, loaded};
 use lines::opens::{Gathered, gather};
@@ -31,6 +37,8 @@ fn serve<W: Write>(
     times: &mut [u64],
 ) -> io::Result<()>
     requires { (length input.now ≤ input_limit) × (before ≤ input_limit) }
+    ensures { OnOk result (Prints (Answers input.now owners before (slices base.now spans.now edges.old routes.old times.old))
+        (W.contents output.old) (W.contents output.new)) }
 {
     let mut space = [0u8; ANSWER];
     let out: &mut [u8] = &mut space;
@@ -49,7 +57,9 @@ fn serve<W: Write>(
 }
 
 // The answer to `go`.
-fn begun<W: Write>(output: &mut W, answer: Scored) -> io::Result<()> {
+fn begun<W: Write>(output: &mut W, answer: Scored) -> io::Result<()>
+    ensures { OnOk result (Appends (W.contents output.old) (W.contents output.new) (reply_text (says_scored answer))) }
+{
     let mut out = [0u8; SHORT];
     let n = loaded(answer, &mut out);
     output.write_all(&out[..n])
@@ -66,6 +76,8 @@ fn open<W: Write>(
     to: &[u32],
 ) -> io::Result<()>
     requires { (length input.now ≤ input_limit) × (line ≤ input_limit) × Within plan durations.now from.now to.now }
+    ensures { OnOk result (Prints (Opened input.now line plan durations.now from.now to.now)
+        (W.contents output.old) (W.contents output.new)) }
 {
     let mut base = [0u32; Plan::BASE];
     let mut spans = [0u64; Plan::SPANS];
@@ -98,7 +110,9 @@ fn open<W: Write>(
 }
 
 // The only answer to lines that don't come to a `go`.
-fn refuse<W: Write>(output: &mut W, line: u64) -> io::Result<()> {
+fn refuse<W: Write>(output: &mut W, line: u64) -> io::Result<()>
+    ensures { OnOk result (Appends (W.contents output.old) (W.contents output.new) (bad_line line)) }
+{
     let mut out = [0u8; SHORT];
     let n = bad(&mut out, line);
     output.write_all(&out[..n])
@@ -107,6 +121,7 @@ fn refuse<W: Write>(output: &mut W, line: u64) -> io::Result<()> {
 // What the lines come to.
 fn run<W: Write>(output: &mut W, input: &[u8]) -> io::Result<()>
     requires { length input.now ≤ input_limit }
+    ensures { OnOk result (Prints (RunPrints input.now) (W.contents output.old) (W.contents output.new)) }
 {
     let mut durations = [0u64; NUMBERS];
     let mut from = [0u32; FIXES];
@@ -128,7 +143,9 @@ fn run<W: Write>(output: &mut W, input: &[u8]) -> io::Result<()>
 
 // Reads until the places are full or the input ends, and answers how many bytes stand in front then. A read that a signal interrupts is made again.
 fn read_full<R: Read>(from: &mut R, input: &mut [u8]) -> io::Result<usize>
-    ensures { IfOk result (λ n. n ≤ length input.new) }
+    ensures within { IfOk result (λ n. n ≤ length input.new) }
+    ensures bytes { IfOk result (λ n. Consumes (R.remaining from.old) (R.remaining from.new) (take n input.new)) }
+    ensures end { IfOk result (λ n. n < length input.new → IsAtEnd (R.remaining from.new)) }
 {
     let mut n: usize = 0;
     for _ in 0..u64::MAX {
@@ -145,16 +162,22 @@ fn read_full<R: Read>(from: &mut R, input: &mut [u8]) -> io::Result<usize>
             }
         }
     }
-    Ok(n)
+    Err(io::Error::from(ErrorKind::Interrupted))
 }
 
-// One byte more than the limit is asked for, so that a longer input shows.
-fn main(rt: HostRuntime) -> io::Result<()> {
-    let mut output = rt.stdout();
+// The answers to all that is read. One byte more than the limit is asked for, so that a longer input shows.
+fn answer<R: Read, W: Write>(from: &mut R, output: &mut W) -> io::Result<()>
+    ensures { OnOk result (IfSome (R.remaining from.old)
+        (λ input. Prints (RunPrints input) (W.contents output.old) (W.contents output.new))) }
+{
     let mut input = [0u8; INPUT + 1];
-    let n = read_full(&mut rt.stdin(), &mut input)?;
+    let n = read_full(from, &mut input)?;
     if INPUT < n {
-        return refuse(&mut output, 0);
+        return refuse(output, 0);
     }
-    run(&mut output, &input[..n])
+    run(output, &input[..n])
+}
+
+fn main(rt: HostRuntime) -> io::Result<()> {
+    answer(&mut rt.stdin(), &mut rt.stdout())
 }

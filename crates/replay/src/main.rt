@@ -71,7 +71,7 @@ fn read_full<R: Read>(from: &mut R, input: &mut [u8]) -> io::Result<usize>
             }
         }
     }
-    Ok(n)
+    Err(io::Error::from(ErrorKind::Interrupted))
 }
 
 fn main(rt: HostRuntime) -> io::Result<()> {

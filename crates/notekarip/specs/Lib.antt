@@ -1,0 +1,2 @@
+-- What the program promises. Assumes nothing.
+pub mod Prints
