@@ -18,7 +18,7 @@ loop-at-preserved g c =
       omega arith,
       omega arith,
       serving_next {first = slices c.args.base.now c.args.spans.now c.args.edges.now c.args.routes.now c.args.times.now}
-          {s' = slices c.args.base.now c.args.spans.now t.new.edges t.new.routes t.new.times} so_far t.ensures c.in_ok-write_all.ensures.bytes,
+          {s' = slices c.args.base.now c.args.spans.now t.new.edges t.new.routes t.new.times} so_far t.ensures c.in_ok-write_all.ensures.bytes (omega arith),
     )
 
 pub returns : goal.returns
