@@ -59,6 +59,13 @@ put_report p o l =
     (cond (is_cyclic (put_plan p o l)) CycleFound
     (Incremental (put_walk p o l).visits)))
 
+-- a report in numbers, the visits aside
+abbrev pub kind_of : Report → ℕ
+kind_of Skipped = 0
+kind_of Full = 1
+kind_of CycleFound = 2
+kind_of (Incremental v) = 3
+
 -- "Visits is 0 except in the last."
 abbrev pub visits_of : Report → ℕ
 visits_of Skipped = 0

@@ -5,7 +5,7 @@ ghost use Rattle.std.specs.Prelude.{◌≡◌, ◌≤◌, ltb};
 ghost use Rattle.rules.specs.Sizes.{is_short, fits_sizes, is_long, most_entries};
 ghost use Rattle.rules.specs.Refusals.{number_of};
 ghost use Rattle.rules.specs.Scores.{score_of, minus_of, matches_of, Within, limit};
-ghost use Rattle.rules.specs.Reports.{visits_of};
+ghost use Rattle.rules.specs.Reports.{kind_of, visits_of};
 
 // A job's number. A put cannot take a job for an owner.
 #[derive(Clone, Copy)]
@@ -195,6 +195,20 @@ impl Refusal {
     }
 }
 
+// Words of a store that make no sense: a call that finds out is refused with 12.
+#[derive(Clone, Copy)]
+pub struct Senseless;
+
+impl From<Senseless> for Refusal {
+    ghost use Rattle.rules.specs.declared.Refusal.TheVariants.{BadStore};
+
+    ghost from_gives = { λ _ r. r ≡ BadStore };
+
+    fn from(_words: Senseless) -> Refusal {
+        Refusal::BadStore
+    }
+}
+
 // What a put did to the starts.
 #[derive(Clone, Copy)]
 pub enum Report {
@@ -205,6 +219,18 @@ pub enum Report {
 }
 
 impl Report {
+    // How a report is told in numbers, the visits aside.
+    pub fn kind(self) -> u64
+        ensures { result ≡ kind_of self }
+    {
+        match self {
+            Report::Skipped => 0,
+            Report::Full => 1,
+            Report::CycleFound => 2,
+            Report::Incremental(_) => 3,
+        }
+    }
+
     // 0 except where the walk ran.
     pub fn visits(self) -> u32
         ensures { result ≡ visits_of self }
