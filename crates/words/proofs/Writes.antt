@@ -5,9 +5,12 @@ use native.Mathlib.Nat.{add-zero}
 use native.Mathlib.Numerals.{add-one}
 use native.Mathlib.Omega.{arith}
 use mathlib.Core.Path.{◌≡◌, refl, sym, ap, ◌∙◌}
-use mathlib.Core.List.{List, map}
+use mathlib.Core.List.{List, ◌++◌, map}
 use lib.ListN.{length, get_or, set, take, drop, replicate, length-set, drop_of_length-le}
-use lib.Seq.{sets, slice, slice-cons, slice_empty, drop-cons, get_or-take, get_or-drop, length-take-le, length-slice, take-set-lt, drop-set-lt}
+use borrow.Rule.Slice.PartMut.{put_mid}
+use Rattle.std.proofs.lemmas.List.{take_all}
+use Rattle.std.proofs.lemmas.Slice.{put_mid-paste}
+use lib.Seq.{sets, sets-eq, slice, slice-cons, slice_empty, drop-cons, get_or-take, get_or-drop, length-take-le, length-slice, take-set-lt, drop-set-lt}
 
 -- ── the words of l from place `at` on: i of them are there ──
 
@@ -51,16 +54,24 @@ module _ (from k : ℕ) (s : List ℕ) {a₀ : List ℕ} {at : ℕ} {a : List �
   pub slice_done : k ≤ i → a ≡ sets a₀ at (slice from (from + k) s)
   slice_done h = copy_done S (rw slice_long h)
 
+-- ── all of s from place `at` on, written at once ──
+
+pub written : {X : Type 0} (at k : ℕ) (a s ys : List X) → ys ≡ s → k ≡ length s → at + length s ≤ length a
+    → put_mid at k a ys ≡ sets a at s
+written at k a s ys e n h =
+    put_mid-paste at k a ys s (length s) e (sym n) refl
+    ∙ ap (λ l. (take at a ++ l) ++ drop (at + length s) a) (take_all (length s) s (omega arith)) ∙ sym (sets-eq s a at h)
+
 -- ── x at each place from `from` up to `to`: it is there up to i ──
 
-pub record Filling (a₀ : List ℕ) (from to x : ℕ) (a : List ℕ) (i : ℕ) : Type 0 where
+pub record Filling {X : Type 0} (a₀ : List X) (from to : ℕ) (x : X) (a : List X) (i : ℕ) : Type 0 where
   pub long : length a ≡ length a₀
   pub left : sets a i (replicate (to - i) x) ≡ sets a₀ from (replicate (to - from) x)
 
-pub fill_none : (a : List ℕ) (from to x : ℕ) → Filling a from to x a from
+pub fill_none : {X : Type 0} (a : List X) (from to : ℕ) (x : X) → Filling a from to x a from
 fill_none a from to x = record { long = refl; left = refl }
 
-module _ {a₀ : List ℕ} {from to x : ℕ} {a : List ℕ} {i : ℕ} (S : Filling a₀ from to x a i) where
+module _ {X : Type 0} {a₀ : List X} {from to : ℕ} {x : X} {a : List X} {i : ℕ} (S : Filling a₀ from to x a i) where
   pub fill_next : i < to → Filling a₀ from to x (set a i x) (i + 1)
   fill_next h =
       let p : to - i ≡ suc (to - (i + 1)) = omega arith in

@@ -124,15 +124,21 @@ pub fn copy(a: &mut [u16], at: usize, s: &[u16], from: usize, k: usize)
     }
 }
 
+// All of s, written from place `at` on.
+pub fn copy_to<T: Copy>(a: &mut [T], at: usize, s: &[T])
+    requires { at + length s.now ≤ length a.old }
+    ensures { a.new ≡ sets a.old at s.now }
+{
+    a[at..at + s.len()].copy_from_slice(s);
+}
+
 // x at each place from `from` up to, not including, `to`.
-pub fn fill(a: &mut [u16], from: usize, to: usize, x: u16)
+pub fn fill<T: Copy>(a: &mut [T], from: usize, to: usize, x: T)
     requires { (from ≤ to) × (to ≤ length a.old) }
     ensures { a.new ≡ sets a.old from (replicate (to - from) x) }
 {
-    let mut i = from;
-    while i < to {
+    for i in from..to {
         a[i] = x;
-        i += 1;
     }
 }
 
