@@ -12,40 +12,40 @@ use borrow.Author.Tests.{eq-eqb, ne_eqb, le-ltb, ltb-false, not-true}
 use Rattle.rules.specs.declared.Plan.{Plan as Counts}
 use Rattle.rules.specs.declared.Refusal.{Refusal}
 use Rattle.rules.specs.declared.Refusal.TheVariants.{NotLoaded, BadStore, ShortStore}
-use Rattle.rules.specs.Sizes.{Base, Lent, is_short, fits_sizes, base_length, edges_length, most_fixed, most_jobs, routes_length, times_length}
+use Rattle.rules.specs.Sizes.{Base, Lent, is_short, fits_sizes, base_length, edges_length, most_fixed, routes_length, times_length}
 use Rattle.rules.specs.Routes.{Plan}
 use Rattle.rules.specs.Scores.{invalid_fixed}
 use Rattle.rules.specs.Sound.{Loaded}
 use Rattle.rules.proofs.Members.{or_false}
 use Rattle.rules.proofs.Ranges.{Test, pass, fail, test, and_true}
-use Rattle.stores.specs.declared.header.Header.TheVariants.{Is, Refused}
+use Rattle.std.specs.Prelude.{Result, Ok, Err, IfOk}
 use Rattle.stores.specs.Words.{base_words}
-use Rattle.stores.specs.Headers.{counts_of, plan_at, header_of, open_of}
+use Rattle.stores.specs.Headers.{counts_of, plan_at, header_of, open_of, Long, Opened}
 use Rattle.stores.specs.Promise.{Slices, lent_of, Held, Stands}
 
-unlike : {r : Refusal} {c : Counts} → Refused r ≡ Is c → ⊥
+unlike : {r : Refusal} {c : Counts} → Err r ≡ Ok c → ⊥
 unlike e = let z : ◌≡◌ {A = ℕ} 0 1 = cc in omega arith
 
 -- ── of any words ──
 
 module _ (l : List ℕ) where
-  pub unloaded : get_or l 0 0 ≡ 0 → header_of l ≡ Refused NotLoaded
+  pub unloaded : get_or l 0 0 ≡ 0 → header_of l ≡ Err NotLoaded
   unfolding header_of
   unloaded e = rw (eq-eqb _ 0 e)
 
-  pub mismarked : (get_or l 0 0 ≡ 0 → ⊥) → (get_or l 0 0 ≡ 1 → ⊥) → header_of l ≡ Refused BadStore
+  pub mismarked : (get_or l 0 0 ≡ 0 → ⊥) → (get_or l 0 0 ≡ 1 → ⊥) → header_of l ≡ Err BadStore
   unfolding header_of
   mismarked e f = rw (ne_eqb _ 0 e, ne_eqb _ 1 f)
 
-  pub headed : get_or l 0 0 ≡ 1 → fits_sizes (get_or l 1 0) (get_or l 2 0) (get_or l 3 0) ≡ true → header_of l ≡ Is (plan_at l)
+  pub headed : get_or l 0 0 ≡ 1 → fits_sizes (get_or l 1 0) (get_or l 2 0) (get_or l 3 0) ≡ true → header_of l ≡ Ok (plan_at l)
   unfolding header_of
   headed e f = rw (e, f)
 
-  pub oversized : get_or l 0 0 ≡ 1 → fits_sizes (get_or l 1 0) (get_or l 2 0) (get_or l 3 0) ≡ false → header_of l ≡ Refused BadStore
+  pub oversized : get_or l 0 0 ≡ 1 → fits_sizes (get_or l 1 0) (get_or l 2 0) (get_or l 3 0) ≡ false → header_of l ≡ Err BadStore
   unfolding header_of
   oversized e f = rw (e, f)
 
-  pub open_short : (s : Lent) → is_short s ≡ true → open_of s l ≡ Refused ShortStore
+  pub open_short : (s : Lent) → is_short s ≡ true → open_of s l ≡ Err ShortStore
   unfolding open_of
   open_short s e = rw e
 
@@ -54,13 +54,6 @@ module _ (l : List ℕ) where
   open_long s e = rw e
 
 -- ── of slices that are long enough ──
-
-pub record Long (s : Lent) : Type 0 where
-  pub base : base_length ≤ s.base
-  pub spans : 512 ≤ s.spans
-  pub edges : edges_length ≤ s.edges
-  pub routes : routes_length ≤ s.routes
-  pub times : times_length ≤ s.times
 
 pub long : (s : Lent) → is_short s ≡ false → Long s
 long s e =
@@ -76,14 +69,6 @@ long s e =
       times = ltb-false s.times times_length f;
     }
 
--- what is known of a store that opens
-pub record Opened (s : Lent) (l : List ℕ) (plan : Counts) : Type 0 where
-  pub long : Long s
-  pub is : plan ≡ plan_at l
-  pub jobs : plan.jobs ≤ most_jobs
-  pub owners : plan.owners ≤ 64
-  pub fixed : plan.fixed ≤ most_fixed
-
 fits_bounds : (a b c : ℕ) → fits_sizes a b c ≡ true → (a ≤ 512) × (b ≤ 64) × (c ≤ most_fixed)
 fits_bounds a b c e =
     let (x, y) = and_true {a = not (ltb 512 a)} e in
@@ -92,34 +77,38 @@ fits_bounds a b c e =
 
 headed_opened : (l : List ℕ) (plan : Counts) (m f : Bool) → eqb (get_or l 0 0) 0 ≡ false → eqb (get_or l 0 0) 1 ≡ m
     → fits_sizes (get_or l 1 0) (get_or l 2 0) (get_or l 3 0) ≡ f
-    → header_of l ≡ Is plan → (plan ≡ plan_at l) × (fits_sizes plan.jobs plan.owners plan.fixed ≡ true)
+    → header_of l ≡ Ok plan → (plan ≡ plan_at l) × (fits_sizes plan.jobs plan.owners plan.fixed ≡ true)
 unfolding header_of
 headed_opened l plan true true z e f h =
-    let h' : Is (plan_at l) ≡ Is plan = rw (z, e, f) at h in
+    let h' : Ok (plan_at l) ≡ Ok plan = rw (z, e, f) at h in
     let q : plan ≡ plan_at l = cc in
     (q, rw q f)
-headed_opened l plan true false z e f h = let h' : Refused BadStore ≡ Is plan = rw (z, e, f) at h in absurd (unlike h')
-headed_opened l plan false f' z e f h = let h' : Refused BadStore ≡ Is plan = rw (z, e) at h in absurd (unlike h')
+headed_opened l plan true false z e f h = let h' : Err BadStore ≡ Ok plan = rw (z, e, f) at h in absurd (unlike h')
+headed_opened l plan false f' z e f h = let h' : Err BadStore ≡ Ok plan = rw (z, e) at h in absurd (unlike h')
 
-header_is : (l : List ℕ) (plan : Counts) → header_of l ≡ Is plan
+header_is : (l : List ℕ) (plan : Counts) → header_of l ≡ Ok plan
     → (plan ≡ plan_at l) × (fits_sizes plan.jobs plan.owners plan.fixed ≡ true)
 unfolding header_of
 header_is l plan h = go (test (eqb (get_or l 0 0) 0))
   where
     go : Test (eqb (get_or l 0 0) 0) → (plan ≡ plan_at l) × (fits_sizes plan.jobs plan.owners plan.fixed ≡ true)
-    go (pass z) = let h' : Refused NotLoaded ≡ Is plan = rw z at h in absurd (unlike h')
+    go (pass z) = let h' : Err NotLoaded ≡ Ok plan = rw z at h in absurd (unlike h')
     go (fail z) = headed_opened l plan _ _ z refl refl h
 
-pub open_is : (s : Lent) (l : List ℕ) (plan : Counts) → open_of s l ≡ Is plan → Opened s l plan
+pub open_is : (s : Lent) (l : List ℕ) (plan : Counts) → open_of s l ≡ Ok plan → Opened s plan
 unfolding open_of
 open_is s l plan h = go (test (is_short s))
   where
-    go : Test (is_short s) → Opened s l plan
-    go (pass e) = let h' : Refused ShortStore ≡ Is plan = rw e at h in absurd (unlike h')
+    go : Test (is_short s) → Opened s plan
+    go (pass e) = let h' : Err ShortStore ≡ Ok plan = rw e at h in absurd (unlike h')
     go (fail e) =
         let (q, f) = header_is l plan (sym (open_long l s e) ∙ h) in
         let (a, b, c) = fits_bounds _ _ _ f in
-        record { long = long s e; is = q; jobs = a; owners = b; fixed = c }
+        record { long = long s e; jobs = a; owners = b; fixed = c }
+
+pub opens : (s : Lent) (l : List ℕ) (h : Result Counts Refusal) → h ≡ open_of s l → IfOk h (Opened s)
+opens s l (Ok plan) e = open_is s l plan (sym e)
+opens s l (Err r) e = tt
 
 -- ── of a store that stands for a state ──
 
@@ -150,15 +139,15 @@ fits_loaded b L = rw (le-ltb 512 b.jobs L.jobs, le-ltb 64 b.owners L.owners, le-
 counts_headed : (l : List ℕ) (b : Base) → Headed l b → plan_at l ≡ counts_of b
 counts_headed l b H = rw (H.jobs, H.owners, H.fixed)
 
-base_header : (l : List ℕ) (b : Base) → Headed l b → Loaded b → header_of l ≡ Is (counts_of b)
+base_header : (l : List ℕ) (b : Base) → Headed l b → Loaded b → header_of l ≡ Ok (counts_of b)
 base_header l b H L =
-    headed l H.mark (rw (H.jobs, H.owners, H.fixed) (fits_loaded b L)) ∙ ap Is (counts_headed l b H)
+    headed l H.mark (rw (H.jobs, H.owners, H.fixed) (fits_loaded b L)) ∙ ap Ok (counts_headed l b H)
 
 module _ (s : Slices) (fits : is_short (lent_of s) ≡ false) where
-  pub open_none : Stands s none → open_of (lent_of s) s.base ≡ Refused NotLoaded
+  pub open_none : Stands s none → open_of (lent_of s) s.base ≡ Err NotLoaded
   open_none e = open_long s.base (lent_of s) fits ∙ unloaded s.base e
 
-  pub open_some : (p : Plan) → Held s p → open_of (lent_of s) s.base ≡ Is (counts_of p.base)
+  pub open_some : (p : Plan) → Held s p → open_of (lent_of s) s.base ≡ Ok (counts_of p.base)
   open_some p H =
       open_long s.base (lent_of s) fits
       ∙ base_header s.base p.base (base_headed p.base s.base H.base) H.desk.sound.loaded

@@ -22,8 +22,7 @@ use Rattle.routes.specs.Store.{encode as route_words}
 use Rattle.routes.specs.Desks.{edges_of, routes_of}
 use Rattle.times.specs.Words.{span_words, time_words}
 use Rattle.stores.specs.Words.{base_words}
-use Rattle.stores.specs.declared.header.Header.{Header}
-use Rattle.stores.specs.declared.header.Header.TheVariants.{Is, Refused}
+use Rattle.std.specs.Prelude.{Result, Ok, Err}
 use Rattle.stores.specs.Headers.{open_of, counts_of}
 use Rattle.stores.specs.Promise.{Slices, lent_of, call_of, Held, Stands, StandsFor, holding, after, answer_of, Decided, Promise, refused_by, later_of, Heeds}
 use Rattle.stores.proofs.Openings.{open_short, open_none, open_some}
@@ -106,12 +105,12 @@ decided_written p q a s s' r fine k e n w = record {
 none_some : {A : Type 0} {r : Refusal} {x : Option Refusal} → x ≡ none → x ≡ some r → A
 none_some e f = absurd (let z : ◌≡◌ {A = ℕ} 0 1 = cc in omega arith)
 
-module _ {A : Type 0} (a : Ask) (s : Slices) {h : Header} (opens : h ≡ open_of (lent_of s) s.base) where
+module _ {A : Type 0} (a : Ask) (s : Slices) {h : Result Counts Refusal} (opens : h ≡ open_of (lent_of s) s.base) where
   -- lengths and header refuse
   pub heeds_first : (out : List A) {r : Refusal} → refused_by h a ≡ some r → Heeds a s s out out (refused r)
   heeds_first out {r} e = record {
-    first = λ k f. let q : r ≡ k = (let x = sym e ∙ ap (λ (h : Header). refused_by h a) opens ∙ f in cc) in ap refused q;
-    later = λ f k q. none_some f (sym (ap (λ (h : Header). refused_by h a) opens) ∙ e);
+    first = λ k f. let q : r ≡ k = (let x = sym e ∙ ap (λ (h : Result Counts Refusal). refused_by h a) opens ∙ f in cc) in ap refused q;
+    later = λ f k q. none_some f (sym (ap (λ (h : Result Counts Refusal). refused_by h a) opens) ∙ e);
     stays = λ k q n. (refl, refl);
     zero = λ k q. ap change_of q;
   }
@@ -121,7 +120,7 @@ module _ {A : Type 0} (a : Ask) (s : Slices) {h : Header} (opens : h ≡ open_of
     pub heeds_later : ((k : Refusal) → r ≡ refused k → memb (number_of k) (12 ∷ later_of a) ≡ true)
         → ((k : Refusal) → r ≡ refused k → (k ≡ BadStore → ⊥) → (s' ≡ s) × (out' ≡ out)) → Heeds a s s' out out' r
     heeds_later l k = record {
-      first = λ k f. none_some none_first (ap (λ (h : Header). refused_by h a) opens ∙ f);
+      first = λ k f. none_some none_first (ap (λ (h : Result Counts Refusal). refused_by h a) opens ∙ f);
       later = λ f. l;
       stays = k;
       zero = λ k q. ap change_of q;
@@ -153,12 +152,12 @@ module _ (a : Ask) (s s' : Slices) (out out' : List ℕ) (r : Reply) where
 
 -- ── by what the header says ──
 
-unlike : {r : Refusal} {c : Counts} → Is c ≡ Refused r → ⊥
+unlike : {r : Refusal} {c : Counts} → Ok c ≡ Err r → ⊥
 unlike e = let z : ◌≡◌ {A = ℕ} 0 1 = cc in omega arith
 
-module _ (a : Ask) (s : Slices) {h : Header} (opens : h ≡ open_of (lent_of s) s.base) where
+module _ (a : Ask) (s : Slices) {h : Result Counts Refusal} (opens : h ≡ open_of (lent_of s) s.base) where
   -- a store that does not open: 9, then 1
-  pub closed_kept : (out : List ℕ) → checks_of none a ≡ (NotLoaded, true) ∷ [] → {r : Refusal} → h ≡ Refused r
+  pub closed_kept : (out : List ℕ) → checks_of none a ≡ (NotLoaded, true) ∷ [] → {r : Refusal} → h ≡ Err r
       → Promise a s s out out (refused r)
   closed_kept out k {r} e = promised a s s out out (refused r)
       (λ f t. let x = open_short s.base (lent_of s) f in
@@ -168,10 +167,10 @@ module _ (a : Ask) (s : Slices) {h : Header} (opens : h ≡ open_of (lent_of s) 
       let q : r ≡ NotLoaded = cc in
       rw q (decided_refused none a s out NotLoaded (refusal_long none a s f ∙ ap first_of k)))
       (λ f p H. let x = open_some s f p H in absurd (unlike (sym x ∙ sym opens ∙ e)))
-      (heeds_first a s opens out (ap (λ (h : Header). refused_by h a) e))
+      (heeds_first a s opens out (ap (λ (h : Result Counts Refusal). refused_by h a) e))
 
   -- a store that opens: it stands for a plan, if it stands for anything
-  pub opened_kept : (s' : Slices) (out out' : List ℕ) (r : Reply) {plan : Counts} → h ≡ Is plan
+  pub opened_kept : (s' : Slices) (out out' : List ℕ) (r : Reply) {plan : Counts} → h ≡ Ok plan
       → (is_short (lent_of s) ≡ false → (p : Plan) → Held s p → plan ≡ counts_of p.base → Decided (some p) a s s' out out' r)
       → Heeds a s s' out out' r → Promise a s s' out out' r
   opened_kept s' out out' r {plan} e g H = promised a s s' out out' r

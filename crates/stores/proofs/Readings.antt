@@ -17,10 +17,7 @@ use Rattle.rules.specs.Sizes.{is_short, most_jobs, times_length}
 use Rattle.rules.specs.Routes.{Plan}
 use Rattle.rules.specs.Scores.{score, matches_of, reported_start}
 use Rattle.rules.specs.Calls.{refused, counted, started, to_score, to_starts, accepted}
-use Rattle.stores.specs.declared.header.Header.{Header}
-use Rattle.stores.specs.declared.header.Header.TheVariants.{Is as Headed, Refused as Unopened}
-use Rattle.stores.specs.declared.score.Scored.{Scored}
-use Rattle.stores.specs.declared.score.Scored.TheVariants.{Is, Refused}
+use Rattle.std.specs.Prelude.{Result, Ok, Err}
 use Rattle.stores.specs.Headers.{open_of, counts_of}
 use Rattle.stores.specs.Promise.{Slices, lent_of, Held, Decided, Promise, Reads}
 use Rattle.stores.specs.Sums.{ScoredBy}
@@ -34,18 +31,18 @@ use Rattle.stores.proofs.Tabled.{table_take, taken_sets, places_take}
 
 -- ── score ──
 
-unlike : {r : Refusal} {c : Score} → Is c ≡ Refused r → ⊥
+unlike : {r : Refusal} {c : Score} → Ok c ≡ Err r → ⊥
 unlike e = let z : ◌≡◌ {A = ℕ} 0 1 = cc in omega arith
 
-module _ (s : Slices) {h : Header} (opens : h ≡ open_of (lent_of s) s.base) where
-  pub score_closed : {r : Refusal} → h ≡ Unopened r → Reads to_score s (refused r)
+module _ (s : Slices) {h : Result Counts Refusal} (opens : h ≡ open_of (lent_of s) s.base) where
+  pub score_closed : {r : Refusal} → h ≡ Err r → Reads to_score s (refused r)
   score_closed = closed_kept to_score s opens [] refl
 
-  module _ {plan : Counts} (is : h ≡ Headed plan) {x : Scored} (tells : ScoredBy s.base s.routes s.times plan.jobs x) where
-    scored_so : (p : Plan) → Held s p → plan ≡ counts_of p.base → x ≡ Is (score p)
+  module _ {plan : Counts} (is : h ≡ Ok plan) {x : Result Score Refusal} (tells : ScoredBy s.base s.routes s.times plan.jobs x) where
+    scored_so : (p : Plan) → Held s p → plan ≡ counts_of p.base → x ≡ Ok (score p)
     scored_so p H q = scored_held s p H tells (ap (λ (c : Counts). c.jobs) q)
 
-    pub score_bad : {r : Refusal} → x ≡ Refused r → Reads to_score s (refused r)
+    pub score_bad : {r : Refusal} → x ≡ Err r → Reads to_score s (refused r)
     score_bad {r} e = opened_kept to_score s opens s [] [] (refused r) is
         (λ f p H q. absurd (unlike (sym (scored_so p H q) ∙ e)))
         (heeds_bad to_score s opens (rw is) (ap refused (tells.twelve r e)))
@@ -55,7 +52,7 @@ module _ (s : Slices) {h : Header} (opens : h ≡ open_of (lent_of s) s.base) wh
     unfolding accepted
     some_score e p H = decided_read p to_score s H (refusal_long (some p) to_score s e) [] _ refl refl
 
-    pub score_is : {c : Score} {k : ℕ} → x ≡ Is c → k ≡ matches_of c → Reads to_score s (counted c k)
+    pub score_is : {c : Score} {k : ℕ} → x ≡ Ok c → k ≡ matches_of c → Reads to_score s (counted c k)
     score_is {c} {k} e m = opened_kept to_score s opens s [] [] (counted c k) is (λ f p H q.
         let y = scored_so p H q in
         let z : c ≡ score p = cc in
@@ -76,11 +73,11 @@ starts_reported p l e h =
     ∙ table_take p.base.jobs most_jobs (start_of p) h
     ∙ table_same p.base.jobs (start_of p) (reported_start p) (λ v k. rw (lt-ltb v p.base.jobs k))
 
-module _ (s : Slices) (out : List ℕ) {h : Header} (opens : h ≡ open_of (lent_of s) s.base) where
-  pub starts_closed : {r : Refusal} → h ≡ Unopened r → Promise (to_starts (length out)) s s out out (refused r)
+module _ (s : Slices) (out : List ℕ) {h : Result Counts Refusal} (opens : h ≡ open_of (lent_of s) s.base) where
+  pub starts_closed : {r : Refusal} → h ≡ Err r → Promise (to_starts (length out)) s s out out (refused r)
   starts_closed = closed_kept (to_starts (length out)) s opens out refl
 
-  module _ {plan : Counts} (is : h ≡ Headed plan) where
+  module _ {plan : Counts} (is : h ≡ Ok plan) where
     pub starts_few : length out < plan.jobs → Promise (to_starts (length out)) s s out out (refused ShortAnswer)
     starts_few k = opened_kept (to_starts (length out)) s opens s out out (refused ShortAnswer) is (λ f p H q.
         decided_refused (some p) (to_starts (length out)) s out ShortAnswer

@@ -23,8 +23,7 @@ use Rattle.routes.specs.Desks.{Desked}
 use Rattle.routes.proofs.Waits.{retracts}
 use Rattle.times.specs.Words.{span_words, time_words}
 use Rattle.times.proofs.Timing.{same_words}
-use Rattle.stores.specs.declared.header.Header.{Header}
-use Rattle.stores.specs.declared.header.Header.TheVariants.{Is as Headed, Refused as Unopened}
+use Rattle.std.specs.Prelude.{Result, Ok, Err}
 use Rattle.stores.specs.Words.{base_words}
 use Rattle.stores.specs.Headers.{open_of, counts_of}
 use Rattle.stores.specs.Promise.{Slices, slices, lent_of, Held, holding, Decided, Promise}
@@ -55,11 +54,11 @@ wait_times o p = same_words (wait o p) p (wait_base o p) (wait_live o p)
 unlike : Bad ≡ Fine → ⊥
 unlike e = let z : ◌≡◌ {A = ℕ} 0 1 = cc in omega arith
 
-module _ (o : ℕ) (s : Slices) {h : Header} (opens : h ≡ open_of (lent_of s) s.base) where
-  pub retract_closed : {r : Refusal} → h ≡ Unopened r → Promise (to_retract o) s s [] [] (refused r)
+module _ (o : ℕ) (s : Slices) {h : Result Counts Refusal} (opens : h ≡ open_of (lent_of s) s.base) where
+  pub retract_closed : {r : Refusal} → h ≡ Err r → Promise (to_retract o) s s [] [] (refused r)
   retract_closed = closed_kept (to_retract o) s opens [] refl
 
-  module _ {plan : Counts} (is : h ≡ Headed plan) {t : Bool} (has : t ≡ ltb o plan.owners) where
+  module _ {plan : Counts} (is : h ≡ Ok plan) {t : Bool} (has : t ≡ ltb o plan.owners) where
     pub retract_nobody : t ≡ false → Promise (to_retract o) s s [] [] (refused NoSuchOwner)
     retract_nobody e = let k = ltb-false o plan.owners (sym has ∙ e) in
         opened_kept (to_retract o) s opens s [] [] (refused NoSuchOwner) is (λ f p H q.

@@ -18,8 +18,7 @@ use Rattle.rules.specs.Scores.{score_of, limit, score, hard_penalty, invalid_fix
 use Rattle.rules.proofs.Bounds.{makespan_few}
 use Rattle.rules.proofs.Scoring.{within_score}
 use Rattle.rules.specs.Sizes.{most_jobs, routes_length, times_length}
-use Rattle.stores.specs.declared.score.Scored.{Scored}
-use Rattle.stores.specs.declared.score.Scored.TheVariants.{Is, Refused}
+use Rattle.std.specs.Prelude.{Result, Ok, Err}
 use Rattle.routes.specs.Handing.{Faults, Assigned}
 use Rattle.routes.specs.Desks.{routes_of}
 use Rattle.stores.specs.Sums.{Summed, Tallied, Penal, ScoredBy, total, penalty_in, scored_in, assignments_in}
@@ -28,7 +27,7 @@ use Rattle.stores.specs.Promise.{Slices, Held}
 use Rattle.stores.proofs.Openings.{base_headed}
 use Rattle.stores.proofs.Penalties.{counts_sum, assigned_sum}
 
-never : {r : Refusal} {c : Score} {A : Type 0} → Is c ≡ Refused r → A
+never : {r : Refusal} {c : Score} {A : Type 0} → ◌≡◌ {A = Result Score Refusal} (Ok c) (Err r) → A
 never e = absurd (let z : ◌≡◌ {A = ℕ} 0 1 = cc in omega arith)
 
 -- ── of any words ──
@@ -45,24 +44,24 @@ penal_of {base} {n = n} {m'} h F s A j q k = record {
 }
 
 module _ {base routes times : List ℕ} {n span : ℕ} (es : span ≡ makespan_in times) where
-  pub scored_wide : limit < span → ScoredBy base routes times n (Refused BadStore)
+  pub scored_wide : limit < span → ScoredBy base routes times n (Err BadStore)
   unfolding scored_in
   scored_wide k = record { is = λ m H. rw (← es, lt-ltb limit _ k); twelve = λ k e. cc; within = tt }
 
   module _ {x : ℕ} (p : Penal base (take routes_length routes) n x) (few : n ≤ most_jobs) (wide : span ≤ limit) {b : Bool}
       (eb : b ≡ cyclic_in times) where
-    pub scored_cyclic : {s : Score} → b ≡ true → s ≡ score_of (x + n) span → ScoredBy base routes times n (Is s)
+    pub scored_cyclic : {s : Score} → b ≡ true → s ≡ score_of (x + n) span → ScoredBy base routes times n (Ok s)
     unfolding scored_in
     scored_cyclic e q = record {
-      is = λ m H. rw (← es, le-ltb limit _ wide, ← eb, e, ← p.is m H) (ap Is q);
+      is = λ m H. rw (← es, le-ltb limit _ wide, ← eb, e, ← p.is m H) (ap Ok q);
       twelve = λ k e. never e;
       within = rw q (within_score (x + n) _ (let z = p.few in omega arith) wide);
     }
 
-    pub scored_calm : {s : Score} → b ≡ false → s ≡ score_of x span → ScoredBy base routes times n (Is s)
+    pub scored_calm : {s : Score} → b ≡ false → s ≡ score_of x span → ScoredBy base routes times n (Ok s)
     unfolding scored_in
     scored_calm e q = record {
-      is = λ m H. rw (← es, le-ltb limit _ wide, ← eb, e, ← p.is m H, add-zero) (ap Is q);
+      is = λ m H. rw (← es, le-ltb limit _ wide, ← eb, e, ← p.is m H, add-zero) (ap Ok q);
       twelve = λ k e. never e;
       within = rw q (within_score x _ (let z = p.few in omega arith) wide);
     }
@@ -96,12 +95,12 @@ module _ (s : Slices) (p : Plan) (H : Held s p) where
       go true = let x = penalty_held in omega arith
       go false = let x = penalty_held in omega arith
 
-  scored_plan : scored_in s.base (routes_of p) s.times p.base.jobs ≡ Is (score p)
+  scored_plan : scored_in s.base (routes_of p) s.times p.base.jobs ≡ Ok (score p)
   unfolding scored_in score
   scored_plan =
       let (a, b) = timed p s.times H.times in
       let c : makespan p ≤ limit = (let x = makespan_few p H.desk.sound in omega arith) in
       rw (a, b, le-ltb limit (makespan p) c, penalty_whole)
 
-  pub scored_held : {n : ℕ} {r : Scored} → ScoredBy s.base s.routes s.times n r → n ≡ p.base.jobs → r ≡ Is (score p)
+  pub scored_held : {n : ℕ} {r : Result Score Refusal} → ScoredBy s.base s.routes s.times n r → n ≡ p.base.jobs → r ≡ Ok (score p)
   scored_held S q = S.is (routes_of p) H.desk.routes ∙ ap (scored_in s.base (routes_of p) s.times) q ∙ scored_plan

@@ -2,5 +2,6 @@
 pub mod Words
 pub mod Promise
 pub mod Headers
+pub mod Held
 pub mod Sums
 pub mod Says

@@ -1,6 +1,6 @@
 -- What a public call promises: the reply, every word of every lent slice afterwards, and the answer buffer, all told by the rules from the
 -- state that the store stands for. Assumes nothing.
-use Rattle.std.specs.Prelude.{ℕ, ◌≡◌, true, false, List, [], ◌∷◌, ◌++◌, leb, length, get_or, set, take, drop}
+use Rattle.std.specs.Prelude.{ℕ, ◌≡◌, true, false, List, [], ◌∷◌, ◌++◌, leb, length, get_or, set, take, drop, Result, Ok, Err}
 use Rattle.std.proofs.Math.Option.{Option, none, some}
 use Rattle.std.proofs.lemmas.List.Edits.{sets}
 use Rattle.rules.specs.declared.Plan.{Plan as Counts}
@@ -17,8 +17,6 @@ use Rattle.edges.specs.Edges.{encode as edge_words}
 use Rattle.routes.specs.Store.{encode as route_words}
 use Rattle.routes.specs.Desks.{edges_of, routes_of, Desked}
 use Rattle.times.specs.Words.{span_words, time_words}
-use Rattle.stores.specs.declared.header.Header.{Header}
-use Rattle.stores.specs.declared.header.Header.TheVariants.{Is, Refused}
 use Rattle.stores.specs.Words.{base_words}
 use Rattle.stores.specs.Headers.{open_of}
 
@@ -121,9 +119,9 @@ checks_by c (to_blocks os k) = []
 checks_by c (to_move o m k) = (NoSuchOwner, leb c.owners o) ∷ []
 
 -- what lengths and header refuse, whatever the other words are: 9, 1, then those; 12 for a header that no load leaves
-abbrev pub refused_by : Header → Ask → Option Refusal
-refused_by (Refused r) a = some r
-refused_by (Is c) a = first_of (checks_by c a)
+abbrev pub refused_by : Result Counts Refusal → Ask → Option Refusal
+refused_by (Err r) a = some r
+refused_by (Ok c) a = first_of (checks_by c a)
 
 -- the numbers that the other words may still give, besides 12
 abbrev pub later_of : Ask → List ℕ

@@ -1,15 +1,9 @@
 // What the base says of the plan.
-ghost use Rattle.std.specs.Prelude.{◌≡◌, ◌≤◌, length};
-ghost use Rattle.stores.specs.Headers.{header_of, open_of, lens};
+ghost use Rattle.std.specs.Prelude.{◌≡◌, ◌≤◌, length, IfOk};
+ghost use Rattle.stores.specs.Headers.{header_of, open_of, lens, Opened};
 ghost use Rattle.rules.specs.Sizes.{base_length};
 
 use rules::{Plan, Refusal};
-
-#[derive(Clone, Copy)]
-pub enum Header {
-    Is(Plan),
-    Refused(Refusal),
-}
 
 pub fn broad(x: u32) -> usize
     ensures { result ≡ x }
@@ -19,16 +13,16 @@ pub fn broad(x: u32) -> usize
 
 // Jobs, owners and fixed pairs of a loaded store.
 #[tactic(auto, using(crate::proofs::Openings::unloaded, crate::proofs::Openings::mismarked, crate::proofs::Openings::headed, crate::proofs::Openings::oversized))]
-fn told(base: &[u32]) -> Header
+fn told(base: &[u32]) -> Result<Plan, Refusal>
     requires { base_length ≤ length base.now }
     ensures { result ≡ header_of base.now }
 {
     let mark = base[0];
     if mark == 0 {
-        return Header::Refused(Refusal::NotLoaded);
+        return Err(Refusal::NotLoaded);
     }
     if mark != 1 {
-        return Header::Refused(Refusal::BadStore);
+        return Err(Refusal::BadStore);
     }
     let plan = Plan {
         jobs: base[1],
@@ -36,17 +30,24 @@ fn told(base: &[u32]) -> Header
         fixed: base[3],
     };
     if plan.fits() {
-        return Header::Is(plan);
+        return Ok(plan);
     }
-    Header::Refused(Refusal::BadStore)
+    Err(Refusal::BadStore)
 }
 
-// The header of a store whose slices have these lengths.
-pub fn opened(base: &[u32], spans: usize, edges: usize, routes: usize, times: usize) -> Header
-    ensures { result ≡ open_of (lens (length base.now) spans edges routes times) base.now }
+// The header of a store whose slices have these lengths: they have room, then.
+pub fn opened(
+    base: &[u32],
+    spans: usize,
+    edges: usize,
+    routes: usize,
+    times: usize,
+) -> Result<Plan, Refusal>
+    ensures says { result ≡ open_of (lens (length base.now) spans edges routes times) base.now }
+    ensures opens { IfOk result (Opened (lens (length base.now) spans edges routes times)) }
 {
     if Plan::short(base.len(), spans, edges, routes, times) {
-        return Header::Refused(Refusal::ShortStore);
+        return Err(Refusal::ShortStore);
     }
     told(base)
 }

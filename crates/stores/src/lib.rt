@@ -12,3 +12,4 @@ pub mod reported;
 pub mod reset;
 pub mod retract;
 pub mod score;
+pub mod store;

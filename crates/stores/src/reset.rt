@@ -5,13 +5,13 @@ ghost use Rattle.stores.specs.Says.{says_ended};
 
 use rules::{Plan, Refusal};
 
-#[derive(Clone, Copy)]
-pub enum Ended {
-    Fine,
-    Refused(Refusal),
-}
-
-pub fn reset(base: &mut [u32], spans: &[u64], edges: &[u16], routes: &[u16], times: &[u64]) -> Ended
+pub fn reset(
+    base: &mut [u32],
+    spans: &[u64],
+    edges: &[u16],
+    routes: &[u16],
+    times: &[u64],
+) -> Result<(), Refusal>
     ensures { AnyPromise to_reset
         (slices base.old spans.now edges.now routes.now times.now)
         (slices base.new spans.now edges.now routes.now times.now)
@@ -24,8 +24,8 @@ pub fn reset(base: &mut [u32], spans: &[u64], edges: &[u16], routes: &[u16], tim
         routes.len(),
         times.len(),
     ) {
-        return Ended::Refused(Refusal::ShortStore);
+        return Err(Refusal::ShortStore);
     }
     base[0] = 0;
-    Ended::Fine
+    Ok(())
 }

@@ -4,8 +4,7 @@ ghost use Rattle.rules.specs.Calls.{to_retract};
 ghost use Rattle.stores.specs.Promise.{Promise, slices};
 ghost use Rattle.stores.specs.Says.{says_ended};
 
-use crate::header::{Header, opened};
-use crate::reset::Ended;
+use crate::header::opened;
 use routes::wait::Done;
 use rules::{Owner, Plan, Refusal};
 
@@ -16,22 +15,18 @@ pub fn retract(
     routes: &mut [u16],
     times: &[u64],
     owner: Owner,
-) -> Ended
+) -> Result<(), Refusal>
     ensures { Promise (to_retract owner.0)
         (slices base.now spans.now edges.now routes.old times.now)
         (slices base.now spans.now edges.now routes.new times.now)
         [] [] (says_ended result) }
 {
-    match opened(base, spans.len(), edges.len(), routes.len(), times.len()) {
-        Header::Refused(r) => Ended::Refused(r),
-        Header::Is(plan) => {
-            if !plan.has_owner(owner) {
-                return Ended::Refused(Refusal::NoSuchOwner);
-            }
-            match routes::wait::retract(&mut routes[..Plan::ROUTES], owner) {
-                Done::Bad => Ended::Refused(Refusal::BadStore),
-                Done::Fine => Ended::Fine,
-            }
-        }
+    let plan = opened(base, spans.len(), edges.len(), routes.len(), times.len())?;
+    if !plan.has_owner(owner) {
+        return Err(Refusal::NoSuchOwner);
+    }
+    match routes::wait::retract(&mut routes[..Plan::ROUTES], owner) {
+        Done::Bad => Err(Refusal::BadStore),
+        Done::Fine => Ok(()),
     }
 }

@@ -3,27 +3,16 @@ ghost use Rattle.std.specs.Prelude.{◌≡◌, ◌+◌, ◌≤◌, length};
 ghost use Rattle.rules.specs.Scores.{assignment as assignment_of};
 ghost use Rattle.rules.specs.Calls.{to_score};
 ghost use Rattle.rules.specs.Sizes.{most_jobs, routes_length, times_length};
-ghost use Rattle.stores.specs.Promise.{Reads, slices};
+ghost use Rattle.stores.specs.Held.{held};
+ghost use Rattle.stores.specs.Promise.{Reads};
 ghost use Rattle.stores.specs.Says.{says_counted};
 ghost use Rattle.stores.specs.Words.{from_at};
 ghost use Rattle.stores.specs.Sums.{Summed, Tallied, Penal, ScoredBy};
 
-use crate::header::{Header, broad, opened};
+use crate::store::Store;
 use routes::rows::{assigned, faults};
 use rules::{Plan, Refusal, Score};
 use times::{is_cyclic, makespan};
-
-#[derive(Clone, Copy)]
-pub enum Scored {
-    Is(Score),
-    Refused(Refusal),
-}
-
-#[derive(Clone, Copy)]
-pub enum Counted {
-    Is(Score, u64),
-    Refused(Refusal),
-}
 
 // A makespan of more no plan has.
 const LIMIT: u64 = 1125899906842624;
@@ -73,37 +62,31 @@ fn static_penalty(base: &[u32], routes: &[u16], plan: Plan) -> u64
 {
     let fixed = base[4] as u64;
     let owners = sum_of(faults(routes));
-    let jobs = assignments(assigned(routes), broad(plan.jobs));
+    let jobs = assignments(assigned(routes), plan.jobs as usize);
     fixed + owners + jobs
 }
 
 // The score of a loaded store.
-pub fn score_of(base: &[u32], routes: &[u16], times: &[u64], plan: Plan) -> Scored
+pub fn score_of(base: &[u32], routes: &[u16], times: &[u64], plan: Plan) -> Result<Score, Refusal>
     requires { (from_at ≤ length base.now) × (routes_length ≤ length routes.now) × (times_length ≤ length times.now) × (plan.jobs ≤ most_jobs) }
     ensures { ScoredBy base.now routes.now times.now plan.jobs result }
 {
     let penalty = static_penalty(base, &routes[..Plan::ROUTES], plan);
     let span = makespan(times);
     if LIMIT < span {
-        return Scored::Refused(Refusal::BadStore);
+        return Err(Refusal::BadStore);
     }
     if is_cyclic(times) {
-        return Scored::Is(Score::of(penalty + plan.jobs as u64, span));
+        return Ok(Score::of(penalty + plan.jobs as u64, span));
     }
-    Scored::Is(Score::of(penalty, span))
+    Ok(Score::of(penalty, span))
 }
 
 // Score and match count.
-pub fn score(base: &[u32], spans: &[u64], edges: &[u16], routes: &[u16], times: &[u64]) -> Counted
-    ensures { Reads to_score
-        (slices base.now spans.now edges.now routes.now times.now)
-        (says_counted result) }
+pub fn score(store: Store) -> Result<(Score, u64), Refusal>
+    ensures { Reads to_score (held store.entry) (says_counted result) }
 {
-    match opened(base, spans.len(), edges.len(), routes.len(), times.len()) {
-        Header::Refused(r) => Counted::Refused(r),
-        Header::Is(plan) => match score_of(base, routes, times, plan) {
-            Scored::Refused(r) => Counted::Refused(r),
-            Scored::Is(s) => Counted::Is(s, s.match_count()),
-        },
-    }
+    let plan = store.plan()?;
+    let score = score_of(store.base, store.routes, store.times, plan)?;
+    Ok((score, score.match_count()))
 }

@@ -1,3 +1,4 @@
+use mathlib.Core.Path.{refl}
 use native.Mathlib.Omega.{arith}
 use Rattle.stores.proofs.Scores.{penal_of}
 use Rattle.stores.proofs.score.static_penalty.Goals as goal
@@ -29,7 +30,6 @@ returns c =
     let the_sum_of = c.sum_of-owners in
     let the_assigned = c.assigned in
     let the_assignments = c.assignments-jobs in
-    let the_broad = c.broad in
     let d = c.type_inv.base 4 in
     penal_of (omega arith) the_faults.ensures the_sum_of.ensures the_assigned.ensures the_assignments.ensures
-    the_broad.ensures c.requires.2
+    refl c.requires.2
