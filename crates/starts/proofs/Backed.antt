@@ -289,43 +289,39 @@ module _ (e st : List ℕ) (b k n : ℕ) (ek : k ≡ b) where
 -- ── the heads in turn ──
 
 -- the loop of `judge`: once the rest of the heads are spared, all are
-pub record Turning (e st heads : List ℕ) (c n i : ℕ) : Type 0 where
-  pub rest : (m : Model) → Holds e m → Below n m → Lows n (take c heads)
-      → ((b : ℕ) → memb b (drop i (take c heads)) ≡ true → Spared n (live m) (at st) b)
-      → (b : ℕ) → memb b (take c heads) ≡ true → Spared n (live m) (at st) b
+pub record Turning (e st heads : List ℕ) (n i : ℕ) : Type 0 where
+  pub rest : (m : Model) → Holds e m → Below n m → Lows n heads → ((b : ℕ) → memb b (drop i heads) ≡ true → Spared n (live m) (at st) b)
+      → (b : ℕ) → memb b heads ≡ true → Spared n (live m) (at st) b
 
-pub turning_none : (e st heads : List ℕ) (c n : ℕ) → Turning e st heads c n 0
-turning_none e st heads c n = record { rest = λ m H w g f. f }
+pub turning_none : (e st heads : List ℕ) (n : ℕ) → Turning e st heads n 0
+turning_none e st heads n = record { rest = λ m H w g f. f }
 
-module _ {e st heads : List ℕ} {c n i : ℕ} {r : Turned} (L : Looks e st (get_or heads i 0) n r) (T : Turning e st heads c n i) (hi : i < c)
-    (hc : c ≤ length heads) where
-  long_heads : i < length (take c heads)
-  long_heads = let a = length-take-le c heads hc in omega arith
+looked : (e st heads : List ℕ) (n i : ℕ) (r : Turned) → Looks e st (get_or heads i 0) n r → i < length heads
+    → (m : Model) → Holds e m → Below n m → Lows n heads → Ended n (live m) (Spared n (live m) (at st) (get_or heads i 0)) r
+looked e st heads n i r L hi m H w g = L.is m H w (g (get_or heads i 0) (kahn.memb_get_or heads i hi))
 
-  looked : (m : Model) → Holds e m → Below n m → Lows n (take c heads) → Ended n (live m) (Spared n (live m) (at st) (get_or heads i 0)) r
-  looked m H w g = L.is m H w (rw (get_or-take c heads i 0 hi) at (g (get_or (take c heads) i 0) (kahn.memb_get_or (take c heads) i long_heads)))
-
-  pub turning_next : (x : ℕ) → r ≡ Free x → Turning e st heads c n (i + 1)
-  turning_next x z = record {
-    rest = λ m H w g f. T.rest m H w g (λ b y.
-        ⊎_elim (λ (q : eqb b (get_or (take c heads) i 0) ≡ true). spared m H w g b (eqb-true b (get_or (take c heads) i 0) q))
-        (λ (q : memb b (drop (i + 1) (take c heads)) ≡ true). f b q) (or-true (rw (row_cons (take c heads) i long_heads) at y)));
-  }
-    where
-      spared : (m : Model) → Holds e m → Below n m → Lows n (take c heads) → (b : ℕ) → b ≡ get_or (take c heads) i 0 → Spared n (live m) (at st) b
-      spared m H w g b q = rw (q, get_or-take c heads i 0 hi) (rw z at (looked m H w g))
-
-  pub turning_back : r ≡ Back → Judges e st (take c heads) n false
-  turning_back z = record { told = λ m H w g rank S. rw z at (looked m H w g) }
-
-pub turning_done : {e st heads : List ℕ} {c n i : ℕ} → Turning e st heads c n i → c ≤ i → Judges e st (take c heads) n true
-turning_done {e} {st} {heads} {c} {n} {i} T h = record {
-  told = λ m H w g rank S.
-      falls.shut_lineup n (live m) (at st) (headed (take c heads)) rank S (λ u v hu hv d x y. T.rest m H w g (none (Spared n (live m) (at st))) v x u hu d y);
+pub turning_next : {e st heads : List ℕ} {n i x : ℕ} → Turning e st heads n i → Looks e st (get_or heads i 0) n (Free x) → i < length heads
+    → Turning e st heads n (i + 1)
+turning_next {e} {st} {heads} {n} {i} T L hi = record {
+  rest = λ m H w g f. T.rest m H w g (λ b y.
+      ⊎_elim (λ (q : eqb b (get_or heads i 0) ≡ true). spared m H w g b (eqb-true b (get_or heads i 0) q))
+      (λ (q : memb b (drop (i + 1) heads) ≡ true). f b q) (or-true (rw (row_cons heads i hi) at y)));
 }
   where
-    none : (A : ℕ → Type 0) (b : ℕ) → memb b (drop i (take c heads)) ≡ true → A b
-    none A b y = clash (rw (row_none (take c heads) i (let a = length-take c heads in omega arith)) at y) refl
+    spared : (m : Model) → Holds e m → Below n m → Lows n heads → (b : ℕ) → b ≡ get_or heads i 0 → Spared n (live m) (at st) b
+    spared m H w g b q = rw q (looked e st heads n i _ L hi m H w g)
+
+pub turning_back : {e st heads : List ℕ} {n i : ℕ} → Looks e st (get_or heads i 0) n Back → i < length heads → Judges e st heads n false
+turning_back {e} {st} {heads} {n} {i} L hi = record { told = λ m H w g rank S. looked e st heads n i Back L hi m H w g }
+
+pub turning_done : {e st heads : List ℕ} {n i : ℕ} → Turning e st heads n i → length heads ≤ i → Judges e st heads n true
+turning_done {e} {st} {heads} {n} {i} T h = record {
+  told = λ m H w g rank S.
+      falls.shut_lineup n (live m) (at st) (headed heads) rank S (λ u v hu hv d x y. T.rest m H w g (none (Spared n (live m) (at st))) v x u hu d y);
+}
+  where
+    none : (A : ℕ → Type 0) (b : ℕ) → memb b (drop i heads) ≡ true → A b
+    none A b y = clash (rw (row_none heads i h) at y) refl
 
 pub judge_lined : {e st vs : List ℕ} {n : ℕ} {r : Bool} {o : List ℕ} → Lines e n r o → Judges e st vs n r
 judge_lined {n} {r} {o} L = record { told = λ m H w g rank S. go m r (L.is m H w) }

@@ -1,6 +1,8 @@
 // Whether edges that appeared close a cycle, by the starts before them: a search from the head of each such edge, over jobs that start no
 // later than a predecessor of that head.
-ghost use Rattle.std.specs.Prelude.{◌≡◌, ◌<◌, ◌≤◌, [], ◌∷◌, length, take};
+#![tactic(auto, using(crate::proofs::Backed::backing))]
+
+ghost use Rattle.std.specs.Prelude.{◌≡◌, ◌<◌, ◌≤◌, [], ◌∷◌, length};
 ghost use Rattle.rules.specs.Lists.{keep};
 ghost use Rattle.rules.specs.Sizes.{edges_length, most_jobs};
 ghost use Rattle.starts.specs.Queues.{Joins};
@@ -10,7 +12,6 @@ use crate::lineup::line_up;
 use crate::queues::join;
 use edges::lists::{predecessors, successors};
 use rules::Plan;
-use words::wide;
 
 // So many heads are searched from, and so many jobs passed; beyond that a line-up is as quick.
 const HEADS: usize = 32;
@@ -40,7 +41,7 @@ fn meet(
     ensures { Joins (keep (soon starts.now top) (v ∷ [])) n 0 tail queue.old mark.old result
         queue.new mark.new }
 {
-    let k = wide(v);
+    let k = usize::from(v);
     if n <= k {
         return tail;
     }
@@ -66,10 +67,8 @@ fn meets(
         queue.new mark.new }
 {
     let mut tail = start;
-    let mut k: usize = 0;
-    while k < row.len() {
-        tail = meet(queue, mark, starts, row[k], top, n, tail);
-        k = k + 1;
+    for &v in row {
+        tail = meet(queue, mark, starts, v, top, n, tail);
     }
     tail
 }
@@ -97,7 +96,7 @@ fn search(
         if left <= head {
             return Turned::Tired;
         }
-        let u = wide(queue[head]);
+        let u = usize::from(queue[head]);
         tail = meets(successors(e, u), queue, &mut mark, starts, top, n, tail);
         head = head + 1;
     }
@@ -109,12 +108,11 @@ fn later(starts: &[u64], v: u16, n: usize, top: u64) -> u64
     requires { n ≤ length starts.now }
     ensures { Lates (v ∷ []) starts.now n top result }
 {
-    let k = wide(v);
+    let k = usize::from(v);
     if n <= k {
         return top;
     }
-    let s = starts[k];
-    if top < s { s } else { top }
+    top.max(starts[k])
 }
 
 // The latest start of the jobs of a row.
@@ -123,10 +121,8 @@ fn latest(row: &[u16], starts: &[u64], n: usize) -> u64
     ensures { Lates row.now starts.now n 0 result }
 {
     let mut top: u64 = 0;
-    let mut k: usize = 0;
-    while k < row.len() {
-        top = later(starts, row[k], n, top);
-        k = k + 1;
+    for &v in row {
+        top = later(starts, v, n, top);
     }
     top
 }
@@ -136,7 +132,7 @@ fn look(e: &[u16], queue: &mut [u16], starts: &[u64], b: u16, n: usize, left: us
     requires { (length e.now ≡ edges_length) × (length queue.old ≡ most_jobs) × (n ≤ length starts.now) × (n ≤ most_jobs) }
     ensures { Looks e.now starts.now b n result }
 {
-    let k = wide(b);
+    let k = usize::from(b);
     if n <= k {
         return Turned::Free(left);
     }
@@ -148,23 +144,21 @@ fn look(e: &[u16], queue: &mut [u16], starts: &[u64], b: u16, n: usize, left: us
 }
 
 // The verdict after edges with these heads appeared in a graph that had a line-up and these starts: is there a line-up?
-pub fn judge(e: &[u16], starts: &[u64], heads: &[u16], c: usize, n: usize) -> bool
-    requires { (length e.now ≡ edges_length) × (n ≤ length starts.now) × (n ≤ most_jobs) × (c ≤ length heads.now) }
-    ensures { Judges e.now starts.now (take c heads.now) n result }
+pub fn judge(e: &[u16], starts: &[u64], heads: &[u16], n: usize) -> bool
+    requires { (length e.now ≡ edges_length) × (n ≤ length starts.now) × (n ≤ most_jobs) }
+    ensures { Judges e.now starts.now heads.now n result }
 {
     let mut queue = [0u16; Plan::JOBS];
-    if HEADS < c {
+    if HEADS < heads.len() {
         return line_up(e, n, &mut queue);
     }
     let mut left = STEPS;
-    let mut i: usize = 0;
-    while i < c {
-        match look(e, &mut queue, starts, heads[i], n, left) {
+    for &b in heads {
+        match look(e, &mut queue, starts, b, n, left) {
             Turned::Back => return false,
             Turned::Tired => return line_up(e, n, &mut queue),
             Turned::Free(x) => left = x,
         }
-        i = i + 1;
     }
     true
 }

@@ -2,6 +2,7 @@
 use Rattle.std.proofs.Common.{◌≡◌, ℕ, ◌+◌, ◌-◌, ◌<◌, ◌≤◌, max, Bool, true, false, not, ◌⊎◌, List, [], ◌∷◌, ◌++◌, map, length, get_or, take, drop, set, replicate, sym, refl, ap, ◌∙◌, inl, inr, append-nil, arith, length-append, length-drop, drop_of_length-le, length-take-le, take_all, take_at, drop_at, w32, Fits, rules, le-ltb}
 use lib.ListN.{length-replicate, get_or-replicate, get_or-eq_default}
 use lib.Seq.{sets, sets-eq}
+use Rattle.std.proofs.lemmas.List.{nil_from_length}
 use Rattle.rules.specs.declared.Report.{Report}
 use Rattle.rules.specs.declared.Report.TheVariants.{Skipped, Full, CycleFound, Incremental}
 use Rattle.rules.specs.Lists.{memb, is_empty, table}
@@ -166,57 +167,52 @@ pushed_some (v ∷ l) h = in_some v (push [] (v ∷ l)) (push_new v [] (v ∷ l)
 pub read_cyclic : {ts : List ℕ} {z b : Bool} → z ≡ cyclic_in ts → z ≡ b → (p : Plan) → ts ≡ time_words p → is_cyclic p ≡ b
 read_cyclic y x p t = sym (cyclic_read p) ∙ ap cyclic_in (sym t) ∙ sym y ∙ x
 
-abbrev heads : List ℕ → List ℕ → List ℕ → ℕ → ℕ → ℕ → List ℕ
-heads a b d c w g = take c a ++ (take w b ++ take g d)
-
-some_heads : (a b d : List ℕ) (c w g : ℕ) → (c + w + g ≡ 0 → ⊥) → c ≤ length a → w ≤ length b → g ≤ length d → {q : List ℕ}
-    → push [] (heads a b d c w g) ≡ q → is_empty q ≡ false
-some_heads a b d c w g h hc hw hg e =
-    ap is_empty (sym e) ∙ pushed_some (heads a b d c w g) (simp (length-append, length-take-le) (positive (c + w + g) h))
+some_heads : (a b d : List ℕ) → (length a + length b + length d ≡ 0 → ⊥) → {q : List ℕ} → push [] (a ++ (b ++ d)) ≡ q → is_empty q ≡ false
+some_heads a b d h e = ap is_empty (sym e) ∙ pushed_some (a ++ (b ++ d)) (simp length-append (positive (length a + length b + length d) h))
   where
-    positive : (x : ℕ) → (x ≡ 0 → ⊥) → 0 < c + (w + g)
+    positive : (x : ℕ) → (x ≡ 0 → ⊥) → 0 < length a + (length b + length d)
     positive x f = omega arith
 
-module _ {e sp ts : List ℕ} {n : ℕ} (a b d : List ℕ) (c w g : ℕ) where
-  pub refreshes_none : c + w + g ≡ 0 → Refreshes e sp ts (heads a b d c w g) (take c a) n Skipped ts
+module _ {e sp ts : List ℕ} {n : ℕ} (a b d : List ℕ) where
+  pub refreshes_none : length a + length b + length d ≡ 0 → Refreshes e sp ts (a ++ (b ++ d)) a n Skipped ts
   unfolding put_report
   refreshes_none h = record {
-    is = λ p o l P t q x.
+    is = λ p o l P t q k.
         let z : is_empty (seeds p o l) ≡ true = ap is_empty (sym q ∙ ap (push []) none) in
         record { report = rw z; times = t ∙ sym (skipped_words P z) };
   }
     where
-      none : heads a b d c w g ≡ []
-      none = let x : c ≡ 0 = omega arith in let y : w ≡ 0 = omega arith in let z : g ≡ 0 = omega arith in rw (x, y, z)
+      none : a ++ (b ++ d) ≡ []
+      none = rw (nil_from_length a (omega arith), nil_from_length b (omega arith), nil_from_length d (omega arith))
 
-  module _ (h : c + w + g ≡ 0 → ⊥) (hc : c ≤ length a) (hw : w ≤ length b) (hg : g ≤ length d) where
+  module _ (h : length a + length b + length d ≡ 0 → ⊥) where
     pub refreshes_anew : {z : Bool} {r : Report} {ts' : List ℕ} → Renews e sp n r ts' → z ≡ cyclic_in ts → z ≡ true
-        → Refreshes e sp ts (heads a b d c w g) (take c a) n r ts'
+        → Refreshes e sp ts (a ++ (b ++ d)) a n r ts'
     unfolding put_report
     refreshes_anew R y x = record {
       is = λ p o l P t q k.
           let X = R.is (put_plan p o l) (after P) in
-          record { report = X.report ∙ rw (some_heads a b d c w g h hc hw hg q, read_cyclic y x p t); times = X.times };
+          record { report = X.report ∙ rw (some_heads a b d h q, read_cyclic y x p t); times = X.times };
     }
 
-    module _ {st : List ℕ} {z s : Bool} (X : Judges e st (take c a) n s) (i : st ≡ starts_in ts) (y : z ≡ cyclic_in ts) (x : z ≡ false) where
+    module _ {st : List ℕ} {z s : Bool} (X : Judges e st a n s) (i : st ≡ starts_in ts) (y : z ≡ cyclic_in ts) (x : z ≡ false) where
       told : (p : Plan) (o : ℕ) (l : List ℕ) (P : Putting p o l e sp n) → ts ≡ time_words p
-          → push [] (take c a) ≡ push [] (map head_of (own_stage p o l).came) → is_cyclic (put_plan p o l) ≡ not s
+          → push [] a ≡ push [] (map head_of (own_stage p o l).came) → is_cyclic (put_plan p o l) ≡ not s
       told p o l P t k =
-          let X' : Judges e (table most_jobs (start_of p)) (take c a) n s = rw (i ∙ ap starts_in t ∙ starts_read p) at X in
-          verdict P (read_cyclic y x p t) (take c a) k X'
+          let X' : Judges e (table most_jobs (start_of p)) a n s = rw (i ∙ ap starts_in t ∙ starts_read p) at X in
+          verdict P (read_cyclic y x p t) a k X'
 
-      pub refreshes_found : {ts' : List ℕ} → ts' ≡ 1 ∷ 0 ∷ replicate most_jobs 0 → s ≡ false → Refreshes e sp ts (heads a b d c w g) (take c a) n CycleFound ts'
+      pub refreshes_found : {ts' : List ℕ} → ts' ≡ 1 ∷ 0 ∷ replicate most_jobs 0 → s ≡ false → Refreshes e sp ts (a ++ (b ++ d)) a n CycleFound ts'
       unfolding put_report
       refreshes_found u f = record {
         is = λ p o l P t q k.
             let j : is_cyclic (put_plan p o l) ≡ true = rw f at (told p o l P t k) in
-            record { report = rw (some_heads a b d c w g h hc hw hg q, read_cyclic y x p t, j); times = u ∙ sym (looped_words (put_plan p o l) j) };
+            record { report = rw (some_heads a b d h q, read_cyclic y x p t, j); times = u ∙ sym (looped_words (put_plan p o l) j) };
       }
 
-      pub refreshes_walked : {r : Report} {ts' : List ℕ} → Mends e sp ts (heads a b d c w g) n r ts' → s ≡ true → Refreshes e sp ts (heads a b d c w g) (take c a) n r ts'
+      pub refreshes_walked : {r : Report} {ts' : List ℕ} → Mends e sp ts (a ++ (b ++ d)) n r ts' → s ≡ true → Refreshes e sp ts (a ++ (b ++ d)) a n r ts'
       refreshes_walked M f = record {
-        is = λ p o l P t q k. M.is p o l P t q (some_heads a b d c w g h hc hw hg q) (read_cyclic y x p t) (rw f at (told p o l P t k));
+        is = λ p o l P t q k. M.is p o l P t q (some_heads a b d h q) (read_cyclic y x p t) (rw f at (told p o l P t k));
       }
 
 pub starts_long : (ts : List ℕ) {r : List ℕ} {n : ℕ} → r ≡ starts_in ts → length ts ≡ times_length → n ≤ most_jobs → n ≤ length r

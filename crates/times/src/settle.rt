@@ -1,5 +1,7 @@
 // After a load or an exchange of edges: the verdict and the starts, as the report says.
-ghost use Rattle.std.specs.Prelude.{◌≡◌, ◌≤◌, max, ◌∷◌, ◌++◌, length, take, replicate};
+#![tactic(auto, using(crate::proofs::Settling::settling))]
+
+ghost use Rattle.std.specs.Prelude.{◌≡◌, ◌≤◌, ◌∷◌, ◌++◌, length, replicate};
 ghost use Rattle.rules.specs.Sizes.{edges_length, most_entries, most_jobs, spans_length, times_length};
 ghost use Rattle.times.specs.Words.{starts_in};
 ghost use Rattle.times.specs.Settles.{latest_of, Renews, Mends, Refreshes};
@@ -9,14 +11,7 @@ use rules::{Plan, Report};
 use starts::backs::judge;
 use starts::full;
 use starts::walks::walk;
-use words::u64s::fill;
-
-// The later of two.
-fn later(a: u64, b: u64) -> u64
-    ensures { result ≡ max a b }
-{
-    if a < b { b } else { a }
-}
+use words::fill;
 
 // The greatest finish.
 fn latest(spans: &[u64], starts: &[u64], n: usize) -> u64
@@ -24,10 +19,8 @@ fn latest(spans: &[u64], starts: &[u64], n: usize) -> u64
     ensures { result ≡ latest_of spans.now starts.now n }
 {
     let mut top: u64 = 0;
-    let mut i: usize = 0;
-    while i < n {
-        top = later(top, std::num::wrapping_add_u64(starts[i], spans[i]));
-        i = i + 1;
+    for i in 0..n {
+        top = top.max(starts[i].wrapping_add(spans[i]));
     }
     top
 }
@@ -72,57 +65,49 @@ fn mend(
     spans: &[u64],
     times: &mut [u64],
     came: &[u16],
-    c: usize,
     went: &[u16],
-    w: usize,
     gone: &[u16],
-    g: usize,
     n: usize,
 ) -> Report
-    requires { (length edges.now ≡ edges_length) × (length spans.now ≡ spans_length) × (length times.old ≡ times_length) × (n ≤ most_jobs)
-        × (c ≤ length came.now) × (w ≤ length went.now) × (g ≤ length gone.now) }
-    ensures { Mends edges.now spans.now times.old
-        (take c came.now ++ (take w went.now ++ take g gone.now)) n result times.new }
+    requires { (length edges.now ≡ edges_length) × (length spans.now ≡ spans_length) × (length times.old ≡ times_length) × (n ≤ most_jobs) }
+    ensures { Mends edges.now spans.now times.old (came.now ++ (went.now ++ gone.now)) n result times.new }
 {
     let visits = walk(
         edges,
         spans,
         &mut times[STARTS..Plan::TIMES],
-        &came[..c],
-        &went[..w],
-        &gone[..g],
+        came,
+        went,
+        gone,
         n,
     );
     go(spans, times, n);
     Report::Incremental(visits as u32)
 }
 
-// The times after edges came and went: the first c, w and g numbers of the lists are their heads.
+// The times after edges came and went, the heads of which the lists hold.
 pub fn refresh(
     edges: &[u16],
     spans: &[u64],
     times: &mut [u64],
     came: &[u16],
-    c: usize,
     went: &[u16],
-    w: usize,
     gone: &[u16],
-    g: usize,
     n: usize,
 ) -> Report
     requires { (length edges.now ≡ edges_length) × (length spans.now ≡ spans_length) × (length times.old ≡ times_length) × (n ≤ most_jobs)
-        × (c ≤ length came.now) × (c ≤ most_entries) × (w ≤ length went.now) × (w ≤ most_entries) × (g ≤ length gone.now) × (g ≤ most_entries) }
+        × (length came.now ≤ most_entries) × (length went.now ≤ most_entries) × (length gone.now ≤ most_entries) }
     ensures { Refreshes edges.now spans.now times.old
-        (take c came.now ++ (take w went.now ++ take g gone.now)) (take c came.now) n result times.new }
+        (came.now ++ (went.now ++ gone.now)) came.now n result times.new }
 {
-    if c + w + g == 0 {
+    if came.len() + went.len() + gone.len() == 0 {
         return Report::Skipped;
     }
     if is_cyclic(times) {
         return anew(edges, spans, times, n);
     }
-    if judge(edges, crate::starts(times), came, c, n) {
-        return mend(edges, spans, times, came, c, went, w, gone, g, n);
+    if judge(edges, crate::starts(times), came, n) {
+        return mend(edges, spans, times, came, went, gone, n);
     }
     stop(times);
     Report::CycleFound
