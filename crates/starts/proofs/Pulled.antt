@@ -22,15 +22,12 @@ use Rattle.words.proofs.Rows.{row_cons, row_none}
 
 -- ── reach ──
 
-module _ (sp st : List ℕ) {n k u b : ℕ} (ek : k ≡ u) where
+module _ (sp st : List ℕ) {n k u : ℕ} (b : ℕ) (ek : k ≡ u) where
   pub reach_out : n ≤ k → b ≡ reach_of sp st n b u
   reach_out h = rw (← ek, le-leb n k h)
 
-  pub reach_later : {x : ℕ} → x ≡ (get_or st k 0 + get_or sp k 0) % 2 ^ 64 → k < n → b < x → x ≡ reach_of sp st n b u
-  reach_later e h i = rw (← ek, lt-leb n k h) (omega arith)
-
-  pub reach_sooner : {x : ℕ} → x ≡ (get_or st k 0 + get_or sp k 0) % 2 ^ 64 → k < n → x ≤ b → b ≡ reach_of sp st n b u
-  reach_sooner e h i = rw (← ek, lt-leb n k h) (omega arith)
+  pub reach_in : {x : ℕ} → x ≡ max b ((get_or st k 0 + get_or sp k 0) % 2 ^ 64) → k < n → x ≡ reach_of sp st n b u
+  reach_in e h = rw (← ek, lt-leb n k h, e)
 
 -- ── earliest ──
 
@@ -153,4 +150,4 @@ module _ {e sp : List ℕ} {f : ℕ → ℕ} {st : List ℕ} {n : ℕ} {r : Bool
       lined m H b = rw q at (L.is m H b)
 
 -- what the functions of lib.rt are proved by
-pub ruleset pulling = (rules, reach_out, reach_later, reach_sooner, pulled_next, pulled_done, pulls_of, sofar_none, sofar_out, sofar_next, sofar_done, zeros_low, full_all, full_none)
+pub ruleset pulling = (rules, reach_out, reach_in, pulled_next, pulled_done, pulls_of, sofar_none, sofar_out, sofar_next, sofar_done, zeros_low, full_all, full_none)

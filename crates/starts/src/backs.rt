@@ -88,7 +88,8 @@ fn search(
 {
     let mut mark = [0u8; Plan::JOBS];
     let mut tail = meets(successors(e, b), queue, &mut mark, starts, top, n, 0);
-    let mut head: usize = 0;
+    let mut head = 0;
+    // A `while`: the queue grows while it is passed, so no range or row stands still to go over.
     while head < tail {
         if mark[b] == 1 {
             return Turned::Back;
@@ -98,7 +99,7 @@ fn search(
         }
         let u = usize::from(queue[head]);
         tail = meets(successors(e, u), queue, &mut mark, starts, top, n, tail);
-        head = head + 1;
+        head += 1;
     }
     Turned::Free(left - head)
 }

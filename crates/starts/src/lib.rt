@@ -1,5 +1,5 @@
 // Starts over the edges' rows: a line-up, all starts anew along it, the walk that mends them, and the verdict by them. Any contents are safe.
-#![tactic(auto)]
+#![tactic(auto, using(crate::proofs::Pulled::pulling))]
 
 pub mod backs;
 pub mod lineup;
@@ -14,19 +14,17 @@ ghost use Rattle.starts.specs.Pulls.{reach_of, Pulls, Settles, Full};
 use crate::lineup::line_up;
 use edges::lists::predecessors;
 use rules::Plan;
-use words::wide;
 
 // `best`, or the end of job u if that is later. A number that is no job is passed over.
 fn reach(spans: &[u64], starts: &[u64], u: u16, n: usize, best: u64) -> u64
     requires { (n ≤ length spans.now) × (n ≤ length starts.now) }
     ensures { result ≡ reach_of spans.now starts.now n best u }
 {
-    let k = wide(u);
+    let k = usize::from(u);
     if n <= k {
         return best;
     }
-    let x = std::num::wrapping_add_u64(starts[k], spans[k]);
-    if best < x { x } else { best }
+    best.max(starts[k].wrapping_add(spans[k]))
 }
 
 // The earliest start of job v.
@@ -34,12 +32,9 @@ fn earliest(e: &[u16], spans: &[u64], starts: &[u64], v: usize, n: usize) -> u64
     requires { (length e.now ≡ edges_length) × (n ≤ length spans.now) × (n ≤ length starts.now) × (n ≤ most_jobs) }
     ensures { Pulls e.now spans.now zeros starts.now v n result }
 {
-    let row = predecessors(e, v);
     let mut best: u64 = 0;
-    let mut k: usize = 0;
-    while k < row.len() {
-        best = reach(spans, starts, row[k], n, best);
-        k = k + 1;
+    for &u in predecessors(e, v) {
+        best = reach(spans, starts, u, n, best);
     }
     best
 }
@@ -51,15 +46,12 @@ fn settle(e: &[u16], spans: &[u64], starts: &mut [u64], order: &[u16], n: usize)
     ensures { Settles e.now spans.now zeros
         starts.old order.now n starts.new }
 {
-    let mut i: usize = 0;
-    while i < n {
-        let v = wide(order[i]);
+    for i in 0..n {
+        let v = usize::from(order[i]);
         if n <= v {
             return;
         }
-        let x = earliest(e, spans, &starts[..], v, n);
-        starts[v] = x;
-        i = i + 1;
+        starts[v] = earliest(e, spans, starts, v, n);
     }
 }
 

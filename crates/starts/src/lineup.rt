@@ -1,18 +1,19 @@
 // A line-up by degrees, first in first out.
+#![tactic(auto, using(crate::proofs::Lining::lining))]
+
 ghost use Rattle.std.specs.Prelude.{◌≡◌, ◌<◌, ◌≤◌, [], ◌∷◌, length};
 ghost use Rattle.rules.specs.Sizes.{edges_length, most_jobs};
 ghost use Rattle.starts.specs.Lines.{Tells, Enters, Lined, Lines};
 
 use edges::lists::{predecessors, successors};
 use rules::Plan;
-use words::wide;
 
 // One predecessor of v less; at the last v joins the order.
 pub fn relax(order: &mut [u16], deg: &mut [u16], v: u16, tail: usize) -> usize
     requires { (length order.old ≡ most_jobs) × (length deg.old ≡ most_jobs) × (tail ≤ most_jobs) }
     ensures { Tells (v ∷ []) tail order.old deg.old result order.new deg.new }
 {
-    let k = wide(v);
+    let k = usize::from(v);
     if Plan::JOBS <= k {
         return tail;
     }
@@ -37,10 +38,8 @@ fn tell(row: &[u16], order: &mut [u16], deg: &mut [u16], start: usize) -> usize
     ensures { Tells row.now start order.old deg.old result order.new deg.new }
 {
     let mut tail = start;
-    let mut k: usize = 0;
-    while k < row.len() {
-        tail = relax(order, deg, row[k], tail);
-        k = k + 1;
+    for &v in row {
+        tail = relax(order, deg, v, tail);
     }
     tail
 }
@@ -64,11 +63,9 @@ pub fn degrees(e: &[u16], order: &mut [u16], deg: &mut [u16], n: usize) -> usize
     ensures { Lined e.now n n 0 result order.new deg.new }
 {
     let mut tail: usize = 0;
-    let mut v: usize = 0;
-    while v < n {
+    for v in 0..n {
         let row = predecessors(e, v);
         tail = enter(order, deg, v, row.len(), tail);
-        v = v + 1;
     }
     tail
 }
@@ -80,11 +77,12 @@ pub fn line_up(e: &[u16], n: usize, order: &mut [u16]) -> bool
 {
     let mut deg = [0u16; Plan::JOBS];
     let mut tail = degrees(e, order, &mut deg, n);
-    let mut head: usize = 0;
+    let mut head = 0;
+    // A `while`: the order grows while it is passed, so no range or row stands still to go over.
     while head < tail {
-        let u = wide(order[head]);
+        let u = usize::from(order[head]);
         tail = tell(successors(e, u), order, &mut deg, tail);
-        head = head + 1;
+        head += 1;
     }
     tail == n
 }

@@ -1,10 +1,11 @@
 // A queue on a ring of `Plan::JOBS` places, with a mark for each job that is queued.
+#![tactic(auto, using(crate::proofs::Queueing::queueing))]
+
 ghost use Rattle.std.specs.Prelude.{◌≡◌, ◌+◌, ◌%◌, ◌<◌, ◌≤◌, [], ◌∷◌, length};
 ghost use Rattle.rules.specs.Sizes.{most_jobs};
 ghost use Rattle.starts.specs.Queues.{Joins};
 
 use rules::Plan;
-use words::wide;
 
 // The place that lies len after head.
 pub fn slot(head: usize, len: usize) -> usize
@@ -23,7 +24,7 @@ pub fn join(ring: &mut [u16], mark: &mut [u8], head: usize, len: usize, w: u16, 
     requires { (length ring.old ≡ most_jobs) × (length mark.old ≡ most_jobs) × (n ≤ most_jobs) × (head < most_jobs) × (len ≤ most_jobs) }
     ensures { Joins (w ∷ []) n head len ring.old mark.old result ring.new mark.new }
 {
-    let k = wide(w);
+    let k = usize::from(w);
     if n <= k {
         return len;
     }
@@ -53,10 +54,8 @@ pub fn joins(
     ensures { Joins row.now n head start ring.old mark.old result ring.new mark.new }
 {
     let mut len = start;
-    let mut k: usize = 0;
-    while k < row.len() {
-        len = join(ring, mark, head, len, row[k], n);
-        k = k + 1;
+    for &w in row {
+        len = join(ring, mark, head, len, w, n);
     }
     len
 }

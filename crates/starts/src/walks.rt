@@ -1,4 +1,6 @@
 // The first-in first-out walk that mends the starts.
+#![tactic(auto, using(crate::proofs::Walking::walking))]
+
 ghost use Rattle.std.specs.Prelude.{◌≡◌, ◌<◌, ◌≤◌, ◌++◌, length};
 ghost use Rattle.rules.specs.Reports.{tri};
 ghost use Rattle.rules.specs.Sizes.{edges_length, most_jobs};
@@ -10,7 +12,6 @@ use crate::earliest;
 use crate::queues::{joins, slot};
 use edges::lists::successors;
 use rules::Plan;
-use words::wide;
 
 // Job v, taken from the queue, gets its start anew; if that changed, its successors are queued.
 fn visit(
@@ -30,7 +31,7 @@ fn visit(
         mark.old result starts.new ring.new mark.new }
 {
     mark[v] = 0;
-    let x = earliest(e, spans, &starts[..], v, n);
+    let x = earliest(e, spans, starts, v, n);
     if x == starts[v] {
         return len;
     }
@@ -84,18 +85,19 @@ pub fn walk(
     let mut fuel = fuel_of(n);
     let mut head: usize = 0;
     let mut visits: u64 = 0;
+    // A `while`: the queue grows while it is emptied, so nothing stands still to go over.
     while 0 < len {
         if fuel == 0 {
             return visits;
         }
-        let v = wide(ring[head]);
+        let v = usize::from(ring[head]);
         if n <= v {
             return visits;
         }
-        fuel = fuel - 1;
+        fuel -= 1;
         head = slot(head, 1);
         len = visit(e, spans, starts, &mut ring, &mut mark, head, len - 1, v, n);
-        visits = visits + 1;
+        visits += 1;
     }
     visits
 }
