@@ -1,12 +1,11 @@
 -- `exchange`: the edges of both routes are listed, and one gives way to the other as the plan's stage says. Assumes nothing.
-use Rattle.std.proofs.Common.{◌≡◌, ℕ, ◌+◌, ◌-◌, ◌<◌, ◌≤◌, List, length, take, arith, length-take, rules}
+use Rattle.std.proofs.Common.{◌≡◌, ℕ, ◌+◌, ◌-◌, ◌<◌, ◌≤◌, List, length, take, arith, length-take, rules, Result, Ok, Err}
 use Rattle.rules.specs.Routes.{Plan, Route, route_of}
 use Rattle.rules.specs.Sound.{Sound}
 use Rattle.rules.specs.Steps.{turning}
 use Rattle.rules.proofs.Steps.{turning_sound}
 use Rattle.edges.specs.Edges.{Holds as EdgesHold}
-use Rattle.routes.specs.declared.exchange.Swap.{Swap}
-use Rattle.routes.specs.declared.exchange.Swap.TheVariants.{Bad}
+use Rattle.rules.specs.declared.Senseless.{Senseless}
 use Rattle.routes.specs.Stops.{words}
 use Rattle.routes.specs.Differs.{codes, Linked}
 use Rattle.routes.specs.Turning.{heads_all, turn_all, Parts}
@@ -21,13 +20,14 @@ pub gives_sound : {p : Plan} {o : ℕ} {s : List ℕ} {x : Route} → Sound p �
 gives_sound {p} {o} {x = x} S G = turning_sound p o x S G.owner G.reads G.room
 
 -- the list of heads is too short
-pub exchange_short : (old new e went : List ℕ) (at : ℕ) (came : List ℕ) → length went - at < length old → EdgesTurn old new e e went went at came Bad
+pub exchange_short : (old new e went : List ℕ) (at : ℕ) (came : List ℕ) {z : Senseless} → length went - at < length old
+    → EdgesTurn old new e e went went at came (Err z)
 exchange_short old new e went at came h = record {
   short = λ h c q. never_done q;
   turned = λ p o x S H q G u. absurd (omega arith);
 }
 
-module _ {old new e e' went went' : List ℕ} {at : ℕ} {came' : List ℕ} {r : Swap}
+module _ {old new e e' went went' : List ℕ} {at : ℕ} {came' : List ℕ} {r : Result (ℕ × ℕ) Senseless}
     (P : Parts (codes 0 old) (codes 0 new) e e' went went' at came' r) where
   done_here : (p : Plan) (o : ℕ) (x : Route) → Sound p → EdgesHold e (edges_of p) → old ≡ words (route_of p o).stops → Gives p o new x
       → EdgesTurned p o x e' went went' at came' r
@@ -44,7 +44,7 @@ module _ {old new e e' went went' : List ℕ} {at : ℕ} {came' : List ℕ} {r :
         came_queues = rw D.came_listed (came_queues S G.owner G.reads S' D.differs D.from);
       }
 
-pub exchange_done : {old new e e' went went' : List ℕ} {at : ℕ} {came' : List ℕ} {r : Swap} {a b : List ℕ} {n k : ℕ}
+pub exchange_done : {old new e e' went went' : List ℕ} {at : ℕ} {came' : List ℕ} {r : Result (ℕ × ℕ) Senseless} {a b : List ℕ} {n k : ℕ}
     → Parts (take n a) (take k b) e e' went went' at came' r → Linked old a n → Linked new b k
     → length old ≤ length went - at → at ≤ length went → EdgesTurn old new e e' went went' at came' r
 exchange_done {old} {new} {n = n} {k} P L M h i =

@@ -1,19 +1,17 @@
 -- `exchange_part` and `exchange_links` from their parts: the difference that is found is taken out and put in. Assumes nothing.
-use Rattle.std.proofs.Common.{◌≡◌, ℕ, ◌+◌, ◌-◌, ◌≤◌, Bool, true, false, cond, ◌||◌, eqb, ◌⊎◌, List, [], ◌∷◌, length, take, drop, sym, refl, ap, ◌∙◌, inl, inr, ⊎_elim, zero-add, arith, length-take, rules}
+use Rattle.std.proofs.Common.{◌≡◌, ℕ, ◌+◌, ◌-◌, ◌≤◌, Bool, true, false, cond, ◌||◌, eqb, ◌⊎◌, List, [], ◌∷◌, length, take, drop, sym, refl, ap, ◌∙◌, inl, inr, ⊎_elim, zero-add, arith, length-take, rules, Result, Ok, Err}
+use Rattle.std.specs.Result.{IsErr}
 use Rattle.rules.specs.Lists.{memb}
 use Rattle.rules.proofs.Ranges.{clash, Test, pass, fail, test}
 use Rattle.rules.proofs.Members.{memb_append, or-true}
 use Rattle.edges.specs.Edges.{Model}
-use Rattle.routes.specs.declared.exchange.Heads.{Heads}
-use Rattle.routes.specs.declared.exchange.Heads.TheVariants.{Upto, Bad as HeadsBad}
-use Rattle.routes.specs.declared.exchange.Swap.{Swap}
-use Rattle.routes.specs.declared.exchange.Swap.TheVariants.{Done, Bad}
+use Rattle.rules.specs.declared.Senseless.{Senseless}
 use Rattle.routes.specs.Differs.{gone_of, strike, seat, Differed, Differs, SameFront, SameBack}
 use Rattle.routes.specs.Turning.{turn_one, ReadyAll, Turns, From, Parts}
 use Rattle.routes.proofs.Differing.{differs}
 use Rattle.routes.proofs.Lasts.{memb_seat}
 use Rattle.routes.proofs.Common.{between, parts_of_lem, middle}
-use Rattle.routes.proofs.Sweeping.{upto_same, never_upto}
+use Rattle.routes.proofs.Sweeping.{err_never, ok_same, never_ok}
 
 -- what goes was in the old route
 gone_from : (x : ℕ) (old new gone : List ℕ) → memb x (gone_of old new gone) ≡ true → (memb x old ≡ true) ⊎ (memb x gone ≡ true)
@@ -41,20 +39,23 @@ unfolding ReadyAll
 ready_out [] m = tt
 ready_out (x ∷ l) m = (tt, ready_out l (turn_one false m x))
 
-pub done_both : {a b c d : ℕ} → Done a b ≡ Done c d → (a ≡ c) × (b ≡ d)
-done_both q = (cc, cc)
+pub done_both : {a b c d : ℕ} → ◌≡◌ {A = Result (ℕ × ℕ) Senseless} (Ok (a, b)) (Ok (c, d)) → (a ≡ c) × (b ≡ d)
+done_both {a} {b} {c} {d} q =
+    let p : ◌≡◌ {A = ℕ × ℕ} (a, b) (c, d) = cc in
+    (ap (λ (x : ℕ × ℕ). x.0) p, ap (λ (x : ℕ × ℕ). x.1) p)
 
-pub never_done : {A : Type 0} {a b : ℕ} → Bad ≡ Done a b → A
+pub never_done : {A : Type 0} {z : Senseless} {a b : ℕ} → ◌≡◌ {A = Result (ℕ × ℕ) Senseless} (Err z) (Ok (a, b)) → A
 never_done q = let z : ◌≡◌ {A = ℕ} 0 1 = cc in absurd (omega arith)
 
 -- ── the difference that was found ──
 
-module _ {old new old' new' : List ℕ} {g : ℕ} (d : Differed old new old' new' g) {e e₁ went went₁ : List ℕ} {at : ℕ} {r₁ : Heads}
+module _ {old new old' new' : List ℕ} {g : ℕ} (d : Differed old new old' new' g) {e e₁ went went₁ : List ℕ} {at : ℕ} {r₁ : Result ℕ Senseless}
     (T : Turns false (take g old') e e₁ went went₁ at r₁) where
-  pub part_unswept : {came : List ℕ} → r₁ ≡ HeadsBad → Parts old new e e₁ went went₁ at came Bad
-  part_unswept q = record {
-    short = λ h c z. never_done z;
-    is = λ m H R. never_upto (sym q ∙ (T.is m H (ready_out _ m)).upto);
+  pub part_unswept : {came : List ℕ} {z : Senseless} (r : Result (ℕ × ℕ) Senseless) → r₁ ≡ Err z → IsErr r
+      → Parts old new e e₁ went went₁ at came r
+  part_unswept r q k = record {
+    short = λ h c z. err_never k z;
+    is = λ m H R. never_ok (sym q ∙ (T.is m H (ready_out _ m)).upto);
   }
 
   differs_here : Differs old new (take g old') new'
@@ -63,14 +64,15 @@ module _ {old new old' new' : List ℕ} {g : ℕ} (d : Differed old new old' new
   from_old : From (take g old') old
   from_old x k = ⊎_elim (λ z. z) (λ z. clash z refl) (gone_from x old new [] (rw d.gone at k))
 
-  module _ {e₂ came came₁ : List ℕ} {r₂ : Heads} (U : Turns true new' e₁ e₂ came came₁ 0 r₂) where
-    pub part_unput : r₂ ≡ HeadsBad → Parts old new e e₂ went went₁ at came₁ Bad
-    part_unput q = record {
-      short = λ h c z. never_done z;
-      is = λ m H R. never_upto (sym q ∙ (U.is _ (T.is m H (ready_out _ m)).holds (R (take g old') new' differs_here from_old)).upto);
+  module _ {e₂ came came₁ : List ℕ} {r₂ : Result ℕ Senseless} (U : Turns true new' e₁ e₂ came came₁ 0 r₂) where
+    pub part_unput : {z : Senseless} (r : Result (ℕ × ℕ) Senseless) → r₂ ≡ Err z → IsErr r
+        → Parts old new e e₂ went went₁ at came₁ r
+    part_unput r q k = record {
+      short = λ h c z. err_never k z;
+      is = λ m H R. never_ok (sym q ∙ (U.is _ (T.is m H (ready_out _ m)).holds (R (take g old') new' differs_here from_old)).upto);
     }
 
-    pub part_done : {h c : ℕ} → r₁ ≡ Upto h → r₂ ≡ Upto c → Parts old new e e₂ went went₁ at came₁ (Done h c)
+    pub part_done : {h c : ℕ} → r₁ ≡ Ok h → r₂ ≡ Ok c → Parts old new e e₂ went went₁ at came₁ (Ok (h, c))
     part_done {h} {c} q₁ q₂ = record {
       short = λ i j z.
           let (a, b) = done_both z in
@@ -82,8 +84,8 @@ module _ {old new old' new' : List ℕ} {g : ℕ} (d : Differed old new old' new
       is = λ m H R.
           let t = T.is m H (ready_out _ m) in
           let u = U.is _ t.holds (R (take g old') new' differs_here from_old) in
-          let a = upto_same (sym q₁ ∙ t.upto) in
-          let b = upto_same (sym q₂ ∙ u.upto) ∙ zero-add _ in
+          let a = ok_same (sym q₁ ∙ t.upto) in
+          let b = ok_same (sym q₂ ∙ u.upto) ∙ zero-add _ in
           record {
             gone = take g old';
             left = new';
@@ -114,7 +116,7 @@ module _ {old new : List ℕ} {f b : ℕ} (front : SameFront old new f) (back : 
       or_last true = refl
       or_last false = refl
 
-  pub links_done : {e e₂ went went₁ : List ℕ} {at : ℕ} {came₁ : List ℕ} {r : Swap}
+  pub links_done : {e e₂ went went₁ : List ℕ} {at : ℕ} {came₁ : List ℕ} {r : Result (ℕ × ℕ) Senseless}
       → Parts (between f b old) (between f b new) e e₂ went went₁ at came₁ r → Parts old new e e₂ went went₁ at came₁ r
   links_done P = record {
     short = λ h c q.

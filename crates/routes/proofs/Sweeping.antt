@@ -1,22 +1,26 @@
 -- One edge more or less, and all of a list: `turn` and `turn_all`, from what the edges answer. Assumes nothing.
-use Rattle.std.proofs.Common.{◌≡◌, ℕ, ◌+◌, ◌/◌, ◌%◌, ◌<◌, ◌≤◌, Bool, true, false, cond, not, ◌&&◌, ltb, List, [], ◌∷◌, ◌++◌, length, get_or, take, drop, set, sym, refl, ap, ◌∙◌, append_assoc, append-nil, add-zero, add-one, arith, length-append, take-suc-set, rules, le-ltb, lt-ltb}
+use Rattle.std.proofs.Common.{◌≡◌, ℕ, ◌+◌, ◌/◌, ◌%◌, ◌<◌, ◌≤◌, Bool, true, false, cond, not, ◌&&◌, ltb, List, [], ◌∷◌, ◌++◌, length, get_or, take, drop, set, sym, refl, ap, ◌∙◌, append_assoc, append-nil, add-zero, add-one, arith, length-append, take-suc-set, rules, le-ltb, lt-ltb, Result, Ok, Err}
 use Rattle.rules.specs.Sizes.{most_jobs}
 use Rattle.rules.proofs.Ranges.{clash}
+use Rattle.rules.specs.declared.Senseless.{Senseless}
 use Rattle.edges.specs.Edges.{Model, Holds, has_edge, count_of, add_answer, remove_answer, Adds, Removes}
 use Rattle.edges.specs.declared.Added.{Added}
 use Rattle.edges.specs.declared.Added.TheVariants as added
 use Rattle.edges.specs.declared.Removed.{Removed}
 use Rattle.edges.specs.declared.Removed.TheVariants as removed
-use Rattle.routes.specs.declared.exchange.Heads.{Heads}
-use Rattle.routes.specs.declared.exchange.Heads.TheVariants.{Upto, Bad}
 use Rattle.routes.specs.Turning.{head, turn_one, turns, Ready, turn_all, heads_all, ReadyAll, Turns}
+use Rattle.std.specs.Result.{IsErr, is_err}
 use Rattle.words.proofs.Rows.{row_cons, row_none}
 
-pub upto_same : {a b : ℕ} → Upto a ≡ Upto b → a ≡ b
-upto_same q = cc
+pub ok_same : {a b : ℕ} → ◌≡◌ {A = Result ℕ Senseless} (Ok a) (Ok b) → a ≡ b
+ok_same q = cc
 
-pub never_upto : {A : Type 0} {a : ℕ} → Bad ≡ Upto a → A
-never_upto q = let z : ◌≡◌ {A = ℕ} 0 1 = cc in absurd (omega arith)
+-- an error, as a `?` hands it on, is no answer
+pub err_never : {A T : Type 0} {r : Result T Senseless} {x : T} → IsErr r → r ≡ Ok x → A
+err_never h q = clash h (ap is_err q)
+
+pub never_ok : {A : Type 0} {z : Senseless} {a : ℕ} → ◌≡◌ {A = Result ℕ Senseless} (Err z) (Ok a) → A
+never_ok q = let z : ◌≡◌ {A = ℕ} 0 1 = cc in absurd (omega arith)
 
 -- ── one ──
 
@@ -25,27 +29,27 @@ abbrev Known : Bool → ℕ → List ℕ → List ℕ → Bool → Type 0
 Known b x e e' t = (m : Model) → Holds e m → Ready b m x → (turns b m x ≡ t) × Holds e' (turn_one b m x)
 
 module _ {b : Bool} {x : ℕ} {e e' heads : List ℕ} {h : ℕ} where
-  one_still : Known b x e e' false → Turns b (x ∷ []) e e' heads heads h (Upto h)
+  one_still : Known b x e e' false → Turns b (x ∷ []) e e' heads heads h (Ok h)
   unfolding turn_all heads_all ReadyAll
   one_still k = record {
-    short = λ i q. omega (arith, upto_same q);
+    short = λ i q. omega (arith, ok_same q);
     is = λ m H R. let (t, J) = k m H R.0 in record {
-      upto = rw t (ap Upto (sym (add-zero h)));
+      upto = rw t (ap Ok (sym (add-zero h)));
       holds = J;
       listed = rw (t, add-zero) (sym (append-nil (take h heads)));
     };
   }
 
-  one_turned : Known b x e e' true → h < length heads → Turns b (x ∷ []) e e' heads (set heads h (head x)) h (Upto (h + 1))
+  one_turned : Known b x e e' true → h < length heads → Turns b (x ∷ []) e e' heads (set heads h (head x)) h (Ok (h + 1))
   unfolding turn_all heads_all ReadyAll
   one_turned k l = record {
-    short = λ i q. omega (arith, upto_same q);
+    short = λ i q. omega (arith, ok_same q);
     is = λ m H R. let (t, J) = k m H R.0 in record { upto = rw t; holds = J; listed = rw (t, add-one) (take-suc-set heads h (head x) l) };
   }
 
-  one_never : ((m : Model) → Holds e m → Ready b m x → ⊥) → Turns b (x ∷ []) e e' heads heads h Bad
+  one_never : {z : Senseless} → ((m : Model) → Holds e m → Ready b m x → ⊥) → Turns b (x ∷ []) e e' heads heads h (Err z)
   unfolding ReadyAll
-  one_never k = record { short = λ i q. never_upto q; is = λ m H R. absurd (k m H R.0) }
+  one_never k = record { short = λ i q. never_ok q; is = λ m H R. absurd (k m H R.0) }
 
 -- ── what the edges answer ──
 
@@ -105,46 +109,46 @@ module _ (x : ℕ) {e e' : List ℕ} (near : x / most_jobs < most_jobs) where
       (rw (n, q) b.0, rw n J, rw q b.1)
 
 module _ {b : Bool} {x : ℕ} {e : List ℕ} where
-  pub turn_far : {heads : List ℕ} {h : ℕ} → most_jobs ≤ x / most_jobs → Turns b (x ∷ []) e e heads heads h (Upto h)
+  pub turn_far : {heads : List ℕ} {h : ℕ} → most_jobs ≤ x / most_jobs → Turns b (x ∷ []) e e heads heads h (Ok h)
   turn_far k = one_still (far b x e k)
 
   module _ {e' heads : List ℕ} {h : ℕ} (near : x / most_jobs < most_jobs) where
     module _ {a : Added} (A : Adds e (x / most_jobs) (x % most_jobs) e' a) (more : b ≡ true) where
-      pub turn_counted : a ≡ added.Counted → Turns b (x ∷ []) e e' heads heads h (Upto h)
+      pub turn_counted : a ≡ added.Counted → Turns b (x ∷ []) e e' heads heads h (Ok h)
       turn_counted q = rw more (one_still (λ m H R. let k = put_one x near A m H R in (k.0 ∙ ap appeared q, k.1)))
 
-      pub turn_appeared : a ≡ added.Appeared → h < length heads → Turns b (x ∷ []) e e' heads (set heads h (x % most_jobs)) h (Upto (h + 1))
+      pub turn_appeared : a ≡ added.Appeared → h < length heads → Turns b (x ∷ []) e e' heads (set heads h (x % most_jobs)) h (Ok (h + 1))
       turn_appeared q l = rw more (one_turned (λ m H R. let k = put_one x near A m H R in (k.0 ∙ ap appeared q, k.1)) l)
 
-      pub turn_unadded : a ≡ added.Bad → Turns b (x ∷ []) e e' heads heads h Bad
+      pub turn_unadded : {z : Senseless} → a ≡ added.Bad → Turns b (x ∷ []) e e' heads heads h (Err z)
       turn_unadded q = rw more (one_never (λ m H R. clash (ap unadded q) (put_one x near A m H R).2))
 
     module _ {a : Removed} (A : Removes e (x / most_jobs) (x % most_jobs) e' a) (less : b ≡ false) where
-      still : vanished a ≡ false → Turns b (x ∷ []) e e' heads heads h (Upto h)
+      still : vanished a ≡ false → Turns b (x ∷ []) e e' heads heads h (Ok h)
       still q = rw less (one_still (λ m H R. let k = take_one x near A m H R in (k.0 ∙ q, k.1)))
 
-      pub turn_lessened : a ≡ removed.Lessened → Turns b (x ∷ []) e e' heads heads h (Upto h)
+      pub turn_lessened : a ≡ removed.Lessened → Turns b (x ∷ []) e e' heads heads h (Ok h)
       turn_lessened q = still (ap vanished q)
 
-      pub turn_absent : a ≡ removed.Absent → Turns b (x ∷ []) e e' heads heads h (Upto h)
+      pub turn_absent : a ≡ removed.Absent → Turns b (x ∷ []) e e' heads heads h (Ok h)
       turn_absent q = still (ap vanished q)
 
-      pub turn_vanished : a ≡ removed.Vanished → h < length heads → Turns b (x ∷ []) e e' heads (set heads h (x % most_jobs)) h (Upto (h + 1))
+      pub turn_vanished : a ≡ removed.Vanished → h < length heads → Turns b (x ∷ []) e e' heads (set heads h (x % most_jobs)) h (Ok (h + 1))
       turn_vanished q l = rw less (one_turned (λ m H R. let k = take_one x near A m H R in (k.0 ∙ ap vanished q, k.1)) l)
 
-      pub turn_unremoved : a ≡ removed.Bad → Turns b (x ∷ []) e e' heads heads h Bad
+      pub turn_unremoved : {z : Senseless} → a ≡ removed.Bad → Turns b (x ∷ []) e e' heads heads h (Err z)
       turn_unremoved q = rw less (one_never (λ m H R. clash (ap unremoved q) (take_one x near A m H R).2))
 
 pub ruleset turning = (rules, turn_far, turn_counted, turn_appeared, turn_unadded, turn_lessened, turn_absent, turn_vanished, turn_unremoved)
 
 -- ── all of a list ──
 
-turns_none : (b : Bool) (e heads : List ℕ) (h : ℕ) → Turns b [] e e heads heads h (Upto h)
+turns_none : (b : Bool) (e heads : List ℕ) (h : ℕ) → Turns b [] e e heads heads h (Ok h)
 unfolding turn_all heads_all
 turns_none b e heads h = record {
-  short = λ i q. omega (arith, upto_same q);
+  short = λ i q. omega (arith, ok_same q);
   is = λ m H R. record {
-    upto = ap Upto (sym (add-zero h));
+    upto = ap Ok (sym (add-zero h));
     holds = H;
     listed = rw add-zero (sym (append-nil (take h heads)));
   };
@@ -160,7 +164,7 @@ heads_first b m x l = go (turns b m x)
     go false = refl
 
 module _ {b : Bool} {x : ℕ} {l e e₁ heads heads₁ : List ℕ} {h : ℕ} where
-  turns_then : {k : ℕ} {e₂ heads₂ : List ℕ} {r : Heads} → Turns b (x ∷ []) e e₁ heads heads₁ h (Upto k) → Turns b l e₁ e₂ heads₁ heads₂ k r
+  turns_then : {k : ℕ} {e₂ heads₂ : List ℕ} {r : Result ℕ Senseless} → Turns b (x ∷ []) e e₁ heads heads₁ h (Ok k) → Turns b l e₁ e₂ heads₁ heads₂ k r
       → Turns b (x ∷ l) e e₂ heads heads₂ h r
   unfolding turn_all ReadyAll
   turns_then {k} {heads₂ = heads₂} T U = record {
@@ -168,40 +172,40 @@ module _ {b : Bool} {x : ℕ} {l e e₁ heads heads₁ : List ℕ} {h : ℕ} whe
     is = λ m H R.
         let t = T.is m H (R.0, tt) in
         let u = U.is (turn_one b m x) t.holds R.1 in
-        let q : k ≡ h + length (heads_all b m (x ∷ [])) = upto_same t.upto in
+        let q : k ≡ h + length (heads_all b m (x ∷ [])) = ok_same t.upto in
         let f = heads_first b m x l in
         let s : k + length (heads_all b (turn_one b m x) l) ≡ h + length (heads_all b m (x ∷ l)) = (let a = length-append (heads_all b m (x ∷ [])) (heads_all b (turn_one b m x) l) in omega (arith, ap length f)) in
         record {
-          upto = u.upto ∙ ap Upto s;
+          upto = u.upto ∙ ap Ok s;
           holds = u.holds;
           listed = rw (← s, f, ← append_assoc, ← t.listed, ← q) u.listed;
         };
   }
 
-  turns_bad : Turns b (x ∷ []) e e₁ heads heads₁ h Bad → Turns b (x ∷ l) e e₁ heads heads₁ h Bad
+  turns_bad : {z : Senseless} {r : Result ℕ Senseless} → Turns b (x ∷ []) e e₁ heads heads₁ h (Err z) → IsErr r → Turns b (x ∷ l) e e₁ heads heads₁ h r
   unfolding ReadyAll
-  turns_bad T = record { short = λ i q. never_upto q; is = λ m H R. never_upto (T.is m H (R.0, tt)).upto }
+  turns_bad T k = record { short = λ i q. err_never k q; is = λ m H R. never_ok (T.is m H (R.0, tt)).upto }
 
 -- once the rest of the list is turned, all of it is
 pub record Sweeping (b : Bool) (s e₀ heads₀ : List ℕ) (at : ℕ) (e heads : List ℕ) (h i : ℕ) : Type 0 where
   pub few : h ≤ at + i
-  pub rest : (e' heads' : List ℕ) (r : Heads) → Turns b (drop i s) e e' heads heads' h r → Turns b s e₀ e' heads₀ heads' at r
+  pub rest : (e' heads' : List ℕ) (r : Result ℕ Senseless) → Turns b (drop i s) e e' heads heads' h r → Turns b s e₀ e' heads₀ heads' at r
 
 pub sweep_none : (b : Bool) (s e heads : List ℕ) (at : ℕ) → Sweeping b s e heads at e heads at 0
 sweep_none b s e heads at = record { few = omega arith; rest = λ e' heads' r T. T }
 
 module _ {b : Bool} {s e₀ heads₀ : List ℕ} {at : ℕ} {e heads : List ℕ} {h i : ℕ} (W : Sweeping b s e₀ heads₀ at e heads h i) where
-  module _ {e₁ heads₁ : List ℕ} {r : Heads} (T : Turns b (get_or s i 0 ∷ []) e e₁ heads heads₁ h r) (l : i < length s) where
-    pub sweep_on : {k : ℕ} → r ≡ Upto k → Sweeping b s e₀ heads₀ at e₁ heads₁ k (i + 1)
+  module _ {e₁ heads₁ : List ℕ} {r : Result ℕ Senseless} (T : Turns b (get_or s i 0 ∷ []) e e₁ heads heads₁ h r) (l : i < length s) where
+    pub sweep_on : {k : ℕ} → r ≡ Ok k → Sweeping b s e₀ heads₀ at e₁ heads₁ k (i + 1)
     sweep_on {k} q = record {
       few = let a = T.short k q in let c = W.few in omega arith;
       rest = λ e' heads' r U. W.rest e' heads' r (rw (row_cons s i l) (turns_then (rw q at T) U));
     }
 
-    pub sweep_bad : r ≡ Bad → Turns b s e₀ e₁ heads₀ heads₁ at Bad
-    sweep_bad q = W.rest e₁ heads₁ Bad (rw (row_cons s i l) (turns_bad (rw q at T)))
+    pub sweep_bad : {z : Senseless} (r' : Result ℕ Senseless) → r ≡ Err z → IsErr r' → Turns b s e₀ e₁ heads₀ heads₁ at r'
+    sweep_bad r' q k = W.rest e₁ heads₁ r' (rw (row_cons s i l) (turns_bad (rw q at T) k))
 
-  pub sweep_done : length s ≤ i → Turns b s e₀ e heads₀ heads at (Upto h)
-  sweep_done l = W.rest e heads (Upto h) (rw (row_none s i l) (turns_none b e heads h))
+  pub sweep_done : length s ≤ i → Turns b s e₀ e heads₀ heads at (Ok h)
+  sweep_done l = W.rest e heads (Ok h) (rw (row_none s i l) (turns_none b e heads h))
 
 pub ruleset sweeping = (rules, sweep_none, sweep_on, sweep_bad, sweep_done)

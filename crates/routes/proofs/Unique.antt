@@ -1,9 +1,9 @@
 -- Two replies that keep a promise are one: words that hold a plan decide the words afterwards. Assumes nothing.
-use Rattle.std.proofs.Common.{◌≡◌, ℕ, ◌<◌, List, sym, ◌∙◌}
+use Rattle.std.proofs.Common.{◌≡◌, ℕ, ◌<◌, List, sym, ◌∙◌, Result}
 use Rattle.rules.specs.Sizes.{Base}
 use Rattle.rules.specs.Routes.{Plan}
 use Rattle.rules.specs.Sound.{Sound}
-use Rattle.routes.specs.declared.wait.Done.{Done}
+use Rattle.rules.specs.declared.Senseless.{Senseless}
 use Rattle.routes.specs.declared.snap.Snap.{Snap}
 use Rattle.routes.specs.Store.{Model, Holds}
 use Rattle.routes.specs.Desks.{routes_of}
@@ -15,7 +15,7 @@ pub one_words : {l l' : List ℕ} {m : Model} → Holds l m → Holds l' m → l
 one_words h k = h.words ∙ sym k.words
 
 module _ (l : List ℕ) (o : ℕ) (p : Plan) (S : Sound p) (h : Holds l (routes_of p)) (low : o < p.base.owners) where
-  pub retract_once : {l₁ l₂ : List ℕ} {d₁ d₂ : Done} → Retracted l o l₁ d₁ → Retracted l o l₂ d₂ → (d₁ ≡ d₂) × (l₁ ≡ l₂)
+  pub retract_once : {l₁ l₂ : List ℕ} {d₁ d₂ : Result Unit Senseless} → Retracted l o l₁ d₁ → Retracted l o l₂ d₂ → (d₁ ≡ d₂) × (l₁ ≡ l₂)
   retract_once a b =
       let (c, x) = a p S h low in
       let (d, y) = b p S h low in

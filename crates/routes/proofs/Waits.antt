@@ -1,5 +1,5 @@
 -- The waiting owners: what they give up, who begins to wait, and when nobody does. Assumes nothing.
-use Rattle.std.proofs.Common.{◌≡◌, ℕ, suc, ◌+◌, ◌-◌, ◌*◌, ◌<◌, ◌≤◌, Bool, true, false, List, [], ◌∷◌, ◌++◌, length, get_or, drop, set, replicate, sym, refl, ap, ◌∙◌, ⊎_elim, append_assoc, arith, length-append, drop-drop, rules, eq-eqb, ne_eqb}
+use Rattle.std.proofs.Common.{◌≡◌, ℕ, suc, ◌+◌, ◌-◌, ◌*◌, ◌<◌, ◌≤◌, Bool, true, false, List, [], ◌∷◌, ◌++◌, length, get_or, drop, set, replicate, sym, refl, ap, ◌∙◌, ⊎_elim, append_assoc, arith, length-append, drop-drop, rules, eq-eqb, ne_eqb, Result, Ok, Err}
 use lib.ListN.{length-map}
 use lib.Seq.{sets, sets-eq, set_at}
 use Rattle.rules.specs.Lists.{memb, sum_of}
@@ -13,8 +13,7 @@ use Rattle.rules.proofs.Walks.{memb_snoc}
 use Rattle.rules.proofs.History.{wait_sound}
 use Rattle.edges.specs.Rows.{pad}
 use Rattle.edges.proofs.Rows.{pad_length}
-use Rattle.routes.specs.declared.wait.Done.{Done}
-use Rattle.routes.specs.declared.wait.Done.TheVariants.{Fine, Bad}
+use Rattle.rules.specs.declared.Senseless.{Senseless}
 use Rattle.routes.specs.Stops.{word}
 use Rattle.routes.specs.Store.{Model, Holds, route_at, encode, waiters_at, waiting_at, stops_at}
 use Rattle.routes.specs.Handing.{Stopped, Waiting, GivenUp, Freed, given_up}
@@ -117,21 +116,21 @@ module _ {l : List ℕ} (o : ℕ) {k : ℕ} (e : k ≡ get_or l waiters_at 0) wh
   unfolding routes_of
   count_is p h = (e ∙ waits_count h, waits_few (routes_of p) h.wf)
 
-  pub retract_many : most_owners < k → Retracted l o l Bad
+  pub retract_many : {z : Senseless} → most_owners < k → Retracted l o l (Err z)
   retract_many q p S h low = let (a, b) = count_is p h in absurd (omega arith)
 
   module _ {row : List ℕ} (b : Bool) (m : b ≡ memb o row) (W : Waiting l row) where
-    pub retract_already : b ≡ true → Retracted l o l Fine
+    pub retract_already : b ≡ true → Retracted l o l (Ok tt)
     unfolding wait
     retract_already q p S h low = let z : memb o p.desk.waiting ≡ true = rw (waits_in p h W) at (sym m ∙ q) in (refl, rw z h)
 
     absent : b ≡ false → (p : Plan) → Holds l (routes_of p) → memb o p.desk.waiting ≡ false
     absent q p h = rw (waits_in p h W) at (sym m ∙ q)
 
-    pub retract_full : b ≡ false → k ≡ most_owners → Retracted l o l Bad
+    pub retract_full : {z : Senseless} → b ≡ false → k ≡ most_owners → Retracted l o l (Err z)
     retract_full q f p S h low = let (a, c) = count_is p h in let d = waits_room S low (absent q p h) in absurd (omega arith)
 
-    pub retract_more : b ≡ false → Retracted l o (set (set l (waiting_at + k) o) waiters_at (k + 1)) Fine
+    pub retract_more : b ≡ false → Retracted l o (set (set l (waiting_at + k) o) waiters_at (k + 1)) (Ok tt)
     retract_more q p S h low = (
       refl,
       record {
@@ -168,8 +167,8 @@ pub ruleset clearing = (rules, cleared)
 
 -- ── with the edges, which stay ──
 
-pub retracts : {r e r' : List ℕ} {p : Plan} {o : ℕ} {d : Done} → Retracted r o r' d → Desked r e p → o < p.base.owners
-    → (d ≡ Fine) × Desked r' e (wait o p)
+pub retracts : {r e r' : List ℕ} {p : Plan} {o : ℕ} {d : Result Unit Senseless} → Retracted r o r' d → Desked r e p → o < p.base.owners
+    → (d ≡ Ok tt) × Desked r' e (wait o p)
 unfolding edges_of edges_from wait
 retracts {p = p} {o} R D h =
     let (q, H) = R p D.sound D.routes h in (

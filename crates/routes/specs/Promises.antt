@@ -1,5 +1,5 @@
 -- What the writers promise of the plan that the words stand for. Assumes nothing.
-use Rattle.std.specs.Prelude.{◌≡◌, ℕ, ◌+◌, ◌<◌, ◌≤◌, Bool, true, false, List, ◌++◌, map, length, take, ◌≢◌, slice_set}
+use Rattle.std.specs.Prelude.{◌≡◌, ℕ, ◌+◌, ◌<◌, ◌≤◌, Bool, true, false, List, ◌++◌, map, length, take, ◌≢◌, slice_set, Result, Ok}
 use Rattle.rules.specs.Lists.{Pair}
 use Rattle.rules.specs.Sizes.{most_entries}
 use Rattle.rules.specs.Routes.{Plan, Route, route_of, violations_of, in_force, wait}
@@ -7,10 +7,7 @@ use Rattle.rules.specs.Reports.{push, head_of}
 use Rattle.rules.specs.Sound.{Read, Sound}
 use Rattle.rules.specs.Steps.{staging, turning, unwaited}
 use Rattle.edges.specs.Edges.{Holds as EdgesHold}
-use Rattle.routes.specs.declared.wait.Done.{Done}
-use Rattle.routes.specs.declared.wait.Done.TheVariants.{Fine}
-use Rattle.routes.specs.declared.exchange.Swap.{Swap}
-use Rattle.routes.specs.declared.exchange.Swap.TheVariants.{Done as Swapped}
+use Rattle.rules.specs.declared.Senseless.{Senseless}
 use Rattle.routes.specs.Stops.{words}
 use Rattle.routes.specs.Store.{Holds}
 use Rattle.routes.specs.Raw.{Lies}
@@ -18,8 +15,8 @@ use Rattle.routes.specs.Desks.{routes_of, edges_of}
 
 -- ── who waits ──
 
-abbrev pub Retracted : List ℕ → ℕ → List ℕ → Done → Type 0
-Retracted r o r' d = (p : Plan) → Sound p → Holds r (routes_of p) → o < p.base.owners → (d ≡ Fine) × Holds r' (routes_of (wait o p))
+abbrev pub Retracted : List ℕ → ℕ → List ℕ → Result Unit Senseless → Type 0
+Retracted r o r' d = (p : Plan) → Sound p → Holds r (routes_of p) → o < p.base.owners → (d ≡ Ok tt) × Holds r' (routes_of (wait o p))
 
 abbrev pub Cleared : List ℕ → List ℕ → Type 0
 Cleared r r' = (p : Plan) → Sound p → Holds r (routes_of p) → Holds r' (routes_of (unwaited p))
@@ -49,17 +46,17 @@ abbrev pub Queues : List ℕ → List Pair → Type 0
 Queues h l = (q : List ℕ) → push q h ≡ push q (map head_of l)
 
 -- the edges' words follow; heads of what vanished and appeared are listed
-pub record EdgesTurned (p : Plan) (o : ℕ) (x : Route) (e' went went' : List ℕ) (at : ℕ) (came' : List ℕ) (a : Swap) : Type 0 where
+pub record EdgesTurned (p : Plan) (o : ℕ) (x : Route) (e' went went' : List ℕ) (at : ℕ) (came' : List ℕ) (a : Result (ℕ × ℕ) Senseless) : Type 0 where
   pub gone : List ℕ
   pub fresh : ℕ
-  pub answer : a ≡ Swapped (at + length gone) fresh
+  pub answer : a ≡ Ok (at + length gone, fresh)
   pub holds : EdgesHold e' (edges_of (turning p o x))
   pub went_listed : take (at + length gone) went' ≡ take at went ++ gone
   pub went_queues : Queues gone (staging p o x).went
   pub came_queues : Queues (take fresh came') (staging p o x).came
 
 -- old and new are the words of the stops
-pub record EdgesTurn (old new e e' went went' : List ℕ) (at : ℕ) (came' : List ℕ) (a : Swap) : Type 0 where
-  pub short : (h c : ℕ) → a ≡ Swapped h c → (h ≤ at + length old) × (h ≤ length went) × (c ≤ length new)
+pub record EdgesTurn (old new e e' went went' : List ℕ) (at : ℕ) (came' : List ℕ) (a : Result (ℕ × ℕ) Senseless) : Type 0 where
+  pub short : (h c : ℕ) → a ≡ Ok (h, c) → (h ≤ at + length old) × (h ≤ length went) × (c ≤ length new)
   pub turned : (p : Plan) (o : ℕ) (x : Route) → Sound p → EdgesHold e (edges_of p) → old ≡ words (route_of p o).stops → Gives p o new x
       → at + length old ≤ length went → EdgesTurned p o x e' went went' at came' a

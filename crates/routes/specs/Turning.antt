@@ -1,13 +1,10 @@
 -- Edges taken out or put in, one after the other, and which of them vanish or appear. An edge is from * most_jobs + to; other numbers are
 -- passed over. Assumes nothing.
-use Rattle.std.specs.Prelude.{◌≡◌, ℕ, ◌+◌, ◌/◌, ◌%◌, ◌≤◌, Bool, true, false, cond, not, ◌&&◌, List, [], ◌∷◌, ◌++◌, length, take, nat_lt}
+use Rattle.std.specs.Prelude.{◌≡◌, ℕ, ◌+◌, ◌/◌, ◌%◌, ◌≤◌, Bool, true, false, cond, not, ◌&&◌, List, [], ◌∷◌, ◌++◌, length, take, nat_lt, Result, Ok}
 use Rattle.rules.specs.Lists.{memb}
 use Rattle.rules.specs.Sizes.{most_jobs}
 use Rattle.edges.specs.Edges.{Model, Holds, Room, has_edge, count_of, add_edge, remove_edge}
-use Rattle.routes.specs.declared.exchange.Heads.{Heads}
-use Rattle.routes.specs.declared.exchange.Heads.TheVariants.{Upto}
-use Rattle.routes.specs.declared.exchange.Swap.{Swap}
-use Rattle.routes.specs.declared.exchange.Swap.TheVariants.{Done}
+use Rattle.rules.specs.declared.Senseless.{Senseless}
 use Rattle.routes.specs.Differs.{Differs}
 
 abbrev pub tail : ℕ → ℕ
@@ -47,13 +44,13 @@ ReadyAll b m [] = Unit
 ReadyAll b m (x ∷ l) = Ready b m x × ReadyAll b (turn_one b m x) l
 
 -- the edges l of m were turned, and the heads of those that appeared or vanished are listed from `at` on
-pub record Turnt (b : Bool) (m : Model) (l e' heads heads' : List ℕ) (at : ℕ) (r : Heads) : Type 0 where
-  pub upto : r ≡ Upto (at + length (heads_all b m l))
+pub record Turnt (b : Bool) (m : Model) (l e' heads heads' : List ℕ) (at : ℕ) (r : Result ℕ Senseless) : Type 0 where
+  pub upto : r ≡ Ok (at + length (heads_all b m l))
   pub holds : Holds e' (turn_all b m l)
   pub listed : take (at + length (heads_all b m l)) heads' ≡ take at heads ++ heads_all b m l
 
-pub record Turns (b : Bool) (l e e' heads heads' : List ℕ) (at : ℕ) (r : Heads) : Type 0 where
-  pub short : (h : ℕ) → r ≡ Upto h → h ≤ at + length l
+pub record Turns (b : Bool) (l e e' heads heads' : List ℕ) (at : ℕ) (r : Result ℕ Senseless) : Type 0 where
+  pub short : (h : ℕ) → r ≡ Ok h → h ≤ at + length l
   pub is : (m : Model) → Holds e m → ReadyAll b m l → Turnt b m l e' heads heads' at r
 
 -- what goes is of the old route
@@ -65,16 +62,16 @@ abbrev pub Roomy : Model → List ℕ → List ℕ → Type 0
 Roomy m old new = (gone left : List ℕ) → Differs old new gone left → From gone old → ReadyAll true (turn_all false m gone) left
 
 -- some difference of two routes' edges was taken out and put in
-pub record Parted (m : Model) (old new e' went went' : List ℕ) (at : ℕ) (came' : List ℕ) (r : Swap) : Type 0 where
+pub record Parted (m : Model) (old new e' went went' : List ℕ) (at : ℕ) (came' : List ℕ) (r : Result (ℕ × ℕ) Senseless) : Type 0 where
   pub gone : List ℕ
   pub left : List ℕ
   pub differs : Differs old new gone left
   pub from : From gone old
   pub holds : Holds e' (turn_all true (turn_all false m gone) left)
-  pub answer : r ≡ Done (at + length (heads_all false m gone)) (length (heads_all true (turn_all false m gone) left))
+  pub answer : r ≡ Ok (at + length (heads_all false m gone), length (heads_all true (turn_all false m gone) left))
   pub went_listed : take (at + length (heads_all false m gone)) went' ≡ take at went ++ heads_all false m gone
   pub came_listed : take (length (heads_all true (turn_all false m gone) left)) came' ≡ heads_all true (turn_all false m gone) left
 
-pub record Parts (old new e e' went went' : List ℕ) (at : ℕ) (came' : List ℕ) (r : Swap) : Type 0 where
-  pub short : (h c : ℕ) → r ≡ Done h c → (h ≤ at + length old) × (c ≤ length new)
+pub record Parts (old new e e' went went' : List ℕ) (at : ℕ) (came' : List ℕ) (r : Result (ℕ × ℕ) Senseless) : Type 0 where
+  pub short : (h c : ℕ) → r ≡ Ok (h, c) → (h ≤ at + length old) × (c ≤ length new)
   pub is : (m : Model) → Holds e m → Roomy m old new → Parted m old new e' went went' at came' r

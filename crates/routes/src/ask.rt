@@ -2,24 +2,17 @@
 ghost use Rattle.std.specs.Prelude.{◌≡◌};
 ghost use Rattle.routes.specs.Asks.{ask_of};
 
-use rules::{Owner, Plan};
-
-#[derive(Clone, Copy)]
-pub enum Ask {
-    Fine,
-    NoSuchOwner,
-    TooManyEntries,
-}
+use rules::{Owner, Plan, Refusal};
 
 // First the owner, then the number of entries.
-pub fn asked(plan: Plan, owner: Owner, entries: usize) -> Ask
+pub fn asked(plan: Plan, owner: Owner, entries: usize) -> Result<(), Refusal>
     ensures { result ≡ ask_of plan.owners owner.0 entries }
 {
     if !plan.has_owner(owner) {
-        return Ask::NoSuchOwner;
+        return Err(Refusal::NoSuchOwner);
     }
     if Plan::too_many(entries) {
-        return Ask::TooManyEntries;
+        return Err(Refusal::TooManyEntries);
     }
-    Ask::Fine
+    Ok(())
 }

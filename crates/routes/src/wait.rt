@@ -7,7 +7,7 @@ ghost use Rattle.routes.specs.Promises.{Retracted, Cleared};
 
 use crate::rows::stops;
 use crate::{WAITERS, WAITING};
-use rules::{Owner, Plan};
+use rules::{Owner, Plan, Senseless};
 use words::wide;
 
 // Who waits.
@@ -63,32 +63,25 @@ fn has(row: &[u16], x: u16) -> bool
     false
 }
 
-// `Bad` where the words make no sense.
-#[derive(Clone, Copy)]
-pub enum Done {
-    Fine,
-    Bad,
-}
-
 // The owner waits, behind the others, unless it waits already.
-pub fn retract(r: &mut [u16], owner: Owner) -> Done
+pub fn retract(r: &mut [u16], owner: Owner) -> Result<(), Senseless>
     requires { (length r.old ≡ routes_length) × (owner.0 < most_owners) }
     ensures { Retracted r.old owner.0 r.new result }
 {
     let x = owner.0 as u16;
     let k = wide(r[WAITERS]);
     if Plan::OWNERS < k {
-        return Done::Bad;
+        return Err(Senseless);
     }
     if has(waiting(&r[..]), x) {
-        return Done::Fine;
+        return Ok(());
     }
     if k == Plan::OWNERS {
-        return Done::Bad;
+        return Err(Senseless);
     }
     r[WAITING + k] = x;
     r[WAITERS] = k as u16 + 1;
-    Done::Fine
+    Ok(())
 }
 
 // Nobody waits any more.
