@@ -11,22 +11,21 @@ use lib.ListN.{length, get_or, take}
 use lib.Seq.{sets, slice, take-suc, take_all}
 use borrow.Author.Rules.{rules}
 use borrow.Author.Tests.{eq-eqb, ne_eqb}
+use Rattle.std.specs.Prelude.{Result, Ok, Err}
+use Rattle.std.specs.Result.{IsErr}
 use Rattle.rules.specs.Sizes.{most_entries, most_owners}
 use Rattle.rules.specs.Routes.{Plan, Route, Emptied, empty_route, route_of, in_force, empty, emptied, without}
 use Rattle.rules.specs.Sound.{Sound}
 use Rattle.rules.specs.Steps.{staging, turning, amid, begun, unwaited}
 use Rattle.rules.proofs.Stages.{empty_read, sum_at}
 use Rattle.rules.proofs.Steps.{without_turns, without_went, empty_more, empty_none, emptied_all, given_up_lem}
-use Rattle.routes.specs.declared.exchange.Heads.{Heads}
-use Rattle.routes.specs.declared.exchange.Heads.TheVariants.{Upto, Bad}
-use Rattle.routes.specs.declared.exchange.Swap.{Swap}
-use Rattle.routes.specs.declared.exchange.Swap.TheVariants as swap
+use Rattle.rules.specs.declared.Senseless.{Senseless}
 use Rattle.routes.specs.Handing.{Waiting}
 use Rattle.routes.specs.Desks.{edges_from, edges_of, Desked}
 use Rattle.routes.specs.Promises.{Gives, Queues, Cleared}
 use Rattle.routes.proofs.Lists.{in_list}
-use Rattle.routes.proofs.Sweeping.{upto_same, never_upto}
-use Rattle.routes.proofs.Swapping.{done_both, never_done}
+use Rattle.routes.proofs.Sweeping.{err_never, ok_same, never_ok}
+use Rattle.routes.proofs.Swapping.{done_both}
 use Rattle.routes.proofs.Waits.{waits_in, unwaited_sound}
 use Rattle.puts.specs.Puts.{Turned, RouteTurn, Emptier, OneEmptied, Freely, EachEmptied, AllEmptied}
 use Rattle.puts.proofs.Lists.{taken, whole, queues_none, queues_join}
@@ -43,12 +42,12 @@ none_gives {p} {w} S h = record {
 }
 
 -- the owner of the put
-pub one_own : {r e : List ℕ} {w o : ℕ} {went : List ℕ} {at : ℕ} → w ≡ o → at ≤ length went → OneEmptied r e w o r e went went at (Upto at)
+pub one_own : {r e : List ℕ} {w o : ℕ} {went : List ℕ} {at : ℕ} → w ≡ o → at ≤ length went → OneEmptied r e w o r e went went at (Ok at)
 one_own {w = w} {o} {went} {at} q f = let b : eqb w o ≡ true = eq-eqb w o q in record {
-  within = λ h z. omega (arith, upto_same z);
+  within = λ h z. omega (arith, ok_same z);
   emptier = λ p D h u. record {
     gone = [];
-    answer = ap Upto (sym (add-zero at));
+    answer = ap Ok (sym (add-zero at));
     listed = rw add-zero (sym (append-nil (take at went)));
     desked = rw b D;
     queues = rw b queues_none;
@@ -56,24 +55,24 @@ one_own {w = w} {o} {went} {at} q f = let b : eqb w o ≡ true = eq-eqb w o q in
   };
 }
 
-module _ {r e : List ℕ} {w o : ℕ} {r' e' went went' : List ℕ} {at : ℕ} {came' : List ℕ} {a : Swap}
+module _ {r e : List ℕ} {w o : ℕ} {r' e' went went' : List ℕ} {at : ℕ} {came' : List ℕ} {a : Result (ℕ × ℕ) Senseless}
     (T : RouteTurn r e w [] 0 0 r' e' went went' at came' a) (n : w ≡ o → ⊥) where
   turned_one : (p : Plan) → Desked r e p → w < p.base.owners → at + length (route_of p w).stops ≤ length went
       → Turned p w empty_route r' e' went went' at came' a
   turned_one p D h u = T.turned p empty_route D (none_gives D.sound h) refl refl u
 
-  pub one_bad : a ≡ swap.Bad → OneEmptied r e w o r' e' went went' at Bad
-  one_bad q = record {
-    within = λ h z. never_upto z;
-    emptier = λ p D h u. never_done (sym q ∙ (turned_one p D h u).edges.answer);
+  pub one_bad : {z : Senseless} (b : Result ℕ Senseless) → a ≡ Err z → IsErr b → OneEmptied r e w o r' e' went went' at b
+  one_bad b q k = record {
+    within = λ h y. err_never k y;
+    emptier = λ p D h u. never_ok (sym q ∙ (turned_one p D h u).edges.answer);
   }
 
-  pub one_done : {g c : ℕ} → a ≡ swap.Done g c → OneEmptied r e w o r' e' went went' at (Upto g)
+  pub one_done : {g c : ℕ} → a ≡ Ok (g, c) → OneEmptied r e w o r' e' went went' at (Ok g)
   one_done {g} {c} q = let b : eqb w o ≡ false = ne_eqb w o n in record {
-    within = λ h z. let (x, y) = T.short g c q in omega (arith, upto_same z);
+    within = λ h z. let (x, y) = T.short g c q in omega (arith, ok_same z);
     emptier = λ p D h u. let U = turned_one p D h u in record {
       gone = U.edges.gone;
-      answer = ap Upto (done_both (sym q ∙ U.edges.answer)).0;
+      answer = ap Ok (done_both (sym q ∙ U.edges.answer)).0;
       listed = U.edges.went_listed;
       desked = rw b U.desked;
       queues = rw b U.edges.went_queues;
@@ -137,7 +136,7 @@ module _ {p : Plan} {o i : ℕ} {r e went : List ℕ} {at : ℕ} (S : Sound p) (
       (ap (λ (k : ℕ). take k p.desk.waiting) (add-one i) ∙ take-suc p.desk.waiting i 0 h)
       ∙ empty_more p.base o (take i p.desk.waiting) w (begun p)
 
-  module _ {r' e' went' : List ℕ} {a : Heads} (E : OneEmptied r e w o r' e' went went' at a) where
+  module _ {r' e' went' : List ℕ} {a : Result ℕ Senseless} (E : OneEmptied r e w o r' e' went went' at a) where
     emptier : Emptier q o w r' e' went went' at a
     emptier = E.emptier q F.desked owner (let a = F.few in let b = own_few in let c = S.room in omega arith)
 
@@ -170,23 +169,23 @@ rounds_none r e row o went h =
     record { within = omega arith; kept = refl; long = h; emptying = λ p D q. emptying_start o went D }
 
 module _ {r₀ e₀ row : List ℕ} {o : ℕ} {went₀ r e went : List ℕ} {at i : ℕ} (I : Rounds r₀ e₀ row o went₀ r e went at i) where
-  module _ {r' e' went' : List ℕ} {a : Heads} (E : OneEmptied r e (get_or row i 0) o r' e' went went' at a) (h : i < length row) where
+  module _ {r' e' went' : List ℕ} {a : Result ℕ Senseless} (E : OneEmptied r e (get_or row i 0) o r' e' went went' at a) (h : i < length row) where
     next : (p : Plan) → Desked r₀ e₀ p → row ≡ p.desk.waiting
-        → (a ≡ Bad → ⊥) × ((g : ℕ) → a ≡ Upto g → Emptying p o (i + 1) r' e' went' g)
+        → ((z : Senseless) → a ≡ Err z → ⊥) × ((g : ℕ) → a ≡ Ok g → Emptying p o (i + 1) r' e' went' g)
     next p D q =
         let F = I.emptying p D q in
         let k : i < length p.desk.waiting = rw q at h in
         let long : most_entries ≤ length went = (let x = I.kept in let y = I.long in omega arith) in
         let E' : OneEmptied r e (get_or p.desk.waiting i 0) o r' e' went went' at a = rw q at E in
         let is = (emptier D.sound F k long E').answer in (
-          λ z. never_upto (sym z ∙ is),
-          λ g z. subst (Emptying p o (i + 1) r' e' went') (sym (upto_same (sym z ∙ is))) (emptying_next D.sound F k long E'),
+          λ z y. never_ok (sym y ∙ is),
+          λ g z. subst (Emptying p o (i + 1) r' e' went') (sym (ok_same (sym z ∙ is))) (emptying_next D.sound F k long E'),
         )
 
-    pub rounds_bad : a ≡ Bad → EachEmptied r₀ e₀ row o r' e' went₀ went' Bad
-    rounds_bad z = record { within = λ h y. never_upto y; freely = λ p D q. absurd ((next p D q).0 z) }
+    pub rounds_bad : {z : Senseless} (b : Result ℕ Senseless) → a ≡ Err z → IsErr b → EachEmptied r₀ e₀ row o r' e' went₀ went' b
+    rounds_bad {z} b q k = record { within = λ h y. err_never k y; freely = λ p D e. absurd ((next p D e).0 z q) }
 
-    pub rounds_on : {g : ℕ} → a ≡ Upto g → length went' ≡ length went → Rounds r₀ e₀ row o went₀ r' e' went' g (i + 1)
+    pub rounds_on : {g : ℕ} → a ≡ Ok g → length went' ≡ length went → Rounds r₀ e₀ row o went₀ r' e' went' g (i + 1)
     rounds_on {g} z l = record {
       within = let k = E.within g z in omega arith;
       kept = l ∙ I.kept;
@@ -194,9 +193,9 @@ module _ {r₀ e₀ row : List ℕ} {o : ℕ} {went₀ r e went : List ℕ} {at 
       emptying = λ p D q. (next p D q).1 g z;
     }
 
-  pub rounds_done : length row ≤ i → EachEmptied r₀ e₀ row o r e went₀ went (Upto at)
+  pub rounds_done : length row ≤ i → EachEmptied r₀ e₀ row o r e went₀ went (Ok at)
   rounds_done h = record {
-    within = λ k y. let z = I.within in let x = I.kept in omega (arith, upto_same y);
+    within = λ k y. let z = I.within in let x = I.kept in omega (arith, ok_same y);
     freely = λ p D q.
         let F = I.emptying p D q in
         let all : upto p o i ≡ emptied p o =
@@ -228,14 +227,14 @@ who_waits : (who row : List ℕ) {who' : List ℕ} → who' ≡ sets who 0 (slic
 who_waits who row e h = rw (e, whole row) (taken who row (length row) refl h)
 
 module _ {r e row who' : List ℕ} (who : List ℕ) (W : Waiting r row) (copied : who' ≡ sets who 0 (slice 0 (0 + length row) row))
-    (room : length who ≡ most_owners) {o : ℕ} {r' e' went went' : List ℕ} {a : Heads} (E : EachEmptied r e (take (length row) who') o r' e' went went' a) where
+    (room : length who ≡ most_owners) {o : ℕ} {r' e' went went' : List ℕ} {a : Result ℕ Senseless} (E : EachEmptied r e (take (length row) who') o r' e' went went' a) where
   each : (p : Plan) → Desked r e p → Freely p o (amid p (emptied p o)) r' e' went' a
   each p D = E.freely p D (who_waits who row copied (let z = W.short in omega arith) ∙ waits_in p D.routes W)
 
-  pub all_bad : a ≡ Bad → AllEmptied r e o r' e' went went' Bad
-  all_bad q = record { within = λ h z. never_upto z; freely = λ p D. never_upto (sym q ∙ (each p D).answer) }
+  pub all_bad : {z : Senseless} (b : Result ℕ Senseless) → a ≡ Err z → IsErr b → AllEmptied r e o r' e' went went' b
+  all_bad b q k = record { within = λ h y. err_never k y; freely = λ p D. never_ok (sym q ∙ (each p D).answer) }
 
-  pub all_done : {g : ℕ} {r'' : List ℕ} → a ≡ Upto g → Cleared r' r'' → AllEmptied r e o r'' e' went went' (Upto g)
+  pub all_done : {g : ℕ} {r'' : List ℕ} → a ≡ Ok g → Cleared r' r'' → AllEmptied r e o r'' e' went went' (Ok g)
   all_done {g} q C = record {
     within = λ h z. E.within h (q ∙ z);
     freely = λ p D. let F = each p D in record {

@@ -1,5 +1,5 @@
 -- A put: is there room, the waiting owners are emptied, then the owner's route becomes the new one. Assumes nothing.
-use Prim.Native.Nat.{ℕ, ◌+◌, ◌≤◌}
+use Prim.Native.Nat.{ℕ, ◌+◌, ◌≤◌, ◌<◌}
 use native.Mathlib.Nat.{zero-add}
 use native.Mathlib.Omega.{arith}
 use mathlib.Core.Path.{◌≡◌, refl, sym, ap, ◌∙◌}
@@ -9,6 +9,10 @@ use lib.Dec.{eqb, ltb}
 use lib.ListN.{length, take, length-map, length-take}
 use borrow.Author.Rules.{rules}
 use borrow.Author.Tests.{lt-ltb, le-ltb, ltb-true, ltb-false}
+use Rattle.std.specs.Prelude.{Result, Ok, Err}
+use Rattle.std.proofs.Common.{inl, inr}
+use Rattle.std.specs.Result.{IsErr, IsErrAnd, is_err}
+use Rattle.std.proofs.lemmas.Result.{err_from_is_err_and}
 use Rattle.rules.specs.Lists.{sum_of}
 use Rattle.rules.specs.Sizes.{most_entries}
 use Rattle.rules.specs.Routes.{Plan, Route, route_of, violations_of, in_force, read, emptied, own_stage, put_plan}
@@ -19,22 +23,20 @@ use Rattle.rules.proofs.Ranges.{clash, pass, fail, test}
 use Rattle.rules.proofs.Stages.{read_read}
 use Rattle.rules.proofs.Steps.{put_entries, freed_of}
 use Rattle.routes.specs.declared.snap.Snap.{Snap}
-use Rattle.routes.specs.declared.exchange.Heads.{Heads}
-use Rattle.routes.specs.declared.exchange.Heads.TheVariants as heads
-use Rattle.routes.specs.declared.exchange.Swap.{Swap}
-use Rattle.routes.specs.declared.exchange.Swap.TheVariants as swap
-use Rattle.puts.specs.declared.put.Outcome.{Outcome}
-use Rattle.puts.specs.declared.put.Outcome.TheVariants.{Done, NoRoom, Bad}
+use Rattle.rules.specs.declared.Refusal.{Refusal}
+use Rattle.rules.specs.declared.Refusal.TheVariants.{NoRoom, BadStore}
+use Rattle.rules.specs.declared.Senseless.{Senseless}
+use Rattle.puts.specs.declared.put.Heads.{Heads}
 use Rattle.routes.specs.Stops.{word, words}
 use Rattle.routes.specs.Store.{route_at}
 use Rattle.routes.specs.Handing.{Stopped, Forced, Freed, given_up}
 use Rattle.routes.specs.Snapped.{Snapped}
 use Rattle.routes.specs.Desks.{routes_of}
 use Rattle.routes.specs.Promises.{Gives, Queues}
-use Rattle.routes.proofs.Sweeping.{upto_same, never_upto}
-use Rattle.routes.proofs.Swapping.{done_both, never_done}
+use Rattle.routes.proofs.Sweeping.{ok_same, never_ok}
+use Rattle.routes.proofs.Swapping.{done_both}
 use Rattle.routes.proofs.Wellformed.{route_at_lem, routes_force}
-use Rattle.puts.specs.Puts.{Turned, RouteTurn, Freely, AllEmptied, Crowded, PutDone, Entered, StopsPut, Asked, PutPromised}
+use Rattle.puts.specs.Puts.{Turned, RouteTurn, Freely, AllEmptied, Crowded, PutWithin, PutDone, Entered, StopsPut, Asked, PutPromised}
 use Rattle.puts.proofs.Lists.{taken, queues_join}
 
 -- ── is there room ──
@@ -88,7 +90,7 @@ module _ {p : Plan} {o : ℕ} {s : List ℕ} {i v : ℕ} {l : List ℕ} (N : Ent
   unfolding put_plan
   gives = record { owner = N.owner; reads = read_read p.base.jobs l N.entries; stops = N.stops; room = N.room }
 
-  module _ {r₁ e₁ gone₁ : List ℕ} {b : Heads} (F : Freely p o (ready p o) r₁ e₁ gone₁ b) {r₂ e₂ went went₂ came₂ : List ℕ} {a : Swap}
+  module _ {r₁ e₁ gone₁ : List ℕ} {b : Result ℕ Senseless} (F : Freely p o (ready p o) r₁ e₁ gone₁ b) {r₂ e₂ went went₂ came₂ : List ℕ} {a : Result (ℕ × ℕ) Senseless}
       (T : RouteTurn r₁ e₁ o s i v r₂ e₂ went went₂ 0 came₂ a) (long : most_entries ≤ length went) where
     turned : Turned (ready p o) o x r₂ e₂ went went₂ 0 came₂ a
     turned = T.turned (ready p o) x F.desked gives N.invalid N.violations (let z = (F.desked.sound.reads o).few in omega arith)
@@ -110,14 +112,13 @@ module _ {p : Plan} {o : ℕ} {s : List ℕ} {i v : ℕ} {l : List ℕ} (N : Ent
         ((own_stage p o l).went ++ (emptied p o).went) own_came
         (queues_join turned.edges.gone (take F.count gone₁) (own_stage p o l).went (emptied p o).went own_went F.queues) []
 
-    put_done : {h c g : ℕ} → a ≡ swap.Done h c → b ≡ heads.Upto g → length s ≤ most_entries → PutDone p o l r₂ e₂ came₂ went₂ gone₁ (Done c h g)
+    put_done : {h c g : ℕ} → a ≡ Ok (h, c) → b ≡ Ok g → length s ≤ most_entries
+        → PutDone {E = Senseless} p o l r₂ e₂ came₂ went₂ gone₁ (Ok (record { came = c; went = h; gone = g }))
     put_done {h} {c} {g} q z few =
         let (hw, hc) = done_both (sym q ∙ turned.edges.answer) in
-        let hg : g ≡ F.count = upto_same (sym z ∙ F.answer) in
+        let hg : g ≡ F.count = ok_same (sym z ∙ F.answer) in
         record {
-          c = turned.edges.fresh;
-          w = length turned.edges.gone;
-          g = F.count;
+          heads = record { came = turned.edges.fresh; went = length turned.edges.gone; gone = F.count };
           answer = rw (hc, hw, hg, zero-add);
           desked = rw (turned_put p o l) at turned.desked;
           queued = rw went_read queued;
@@ -127,36 +128,42 @@ module _ {p : Plan} {o : ℕ} {s : List ℕ} {i v : ℕ} {l : List ℕ} (N : Ent
           came_queued = own_came [];
         }
 
+-- an error puts nothing
+within_err : {E : Type 0} (a : Result Heads E) (i j k : ℕ) → IsErr a → PutWithin a i j k
+within_err (Ok h) i j k q = clash q refl
+within_err (Err d) i j k q = tt
+
+refusal_same : {k l : Refusal} → ◌≡◌ {A = Result Heads Refusal} (Err k) (Err l) → k ≡ l
+refusal_same q = cc
+
+bad_is_no_room : BadStore ≡ NoRoom → ⊥
+bad_is_no_room q = cc
+
+ok_no_refusal : {A : Type 0} {x : Heads} {k : Refusal} → ◌≡◌ {A = Result Heads Refusal} (Ok x) (Err k) → A
+ok_no_refusal q = absurd (cc)
+
 -- ── the stops ──
 
-never_room : {A : Type 0} → Bad ≡ NoRoom → A
-never_room q = let z : ◌≡◌ {A = ℕ} 0 1 = cc in absurd (omega arith)
+module _ {r e : List ℕ} {o : ℕ} {r₁ e₁ gone gone₁ : List ℕ} {b : Result ℕ Senseless} (A : AllEmptied r e o r₁ e₁ gone gone₁ b) where
+  pub stops_never : {s : List ℕ} {i v : ℕ} {came went : List ℕ} {z : Senseless} (a : Result Heads Senseless) → b ≡ Err z → IsErr a
+      → StopsPut r e o s i v r₁ e₁ came came went went gone gone₁ a
+  stops_never a q k = record { within = within_err _ _ _ _ k; done = λ p l D N. never_ok (sym q ∙ (A.freely p D).answer) }
 
-done_room : {A : Type 0} {c w g : ℕ} → Done c w g ≡ NoRoom → A
-done_room q = let z : ◌≡◌ {A = ℕ} 0 1 = cc in absurd (omega arith)
-
-module _ {r e : List ℕ} {o : ℕ} {r₁ e₁ gone gone₁ : List ℕ} {b : Heads} (A : AllEmptied r e o r₁ e₁ gone gone₁ b) where
-  pub stops_never : {s : List ℕ} {i v : ℕ} {came went : List ℕ} → b ≡ heads.Bad → StopsPut r e o s i v r₁ e₁ came came went went gone gone₁ Bad
-  stops_never q = record { within = tt; seated = λ z. never_room z; done = λ p l D N. never_upto (sym q ∙ (A.freely p D).answer) }
-
-  module _ {s : List ℕ} {i v : ℕ} {r₂ e₂ went went₂ came came₂ : List ℕ} {a : Swap} (T : RouteTurn r₁ e₁ o s i v r₂ e₂ went went₂ 0 came₂ a)
-      (long : most_entries ≤ length went) where
-    pub stops_bad : a ≡ swap.Bad → StopsPut r e o s i v r₂ e₂ came came₂ went went₂ gone gone₁ Bad
-    stops_bad z = record {
-      within = tt;
-      seated = λ y. never_room y;
-      done = λ p l D N. never_done (sym z ∙ (turned N (A.freely p D) T long).edges.answer);
+  module _ {s : List ℕ} {i v : ℕ} {r₂ e₂ went went₂ came came₂ : List ℕ} {a : Result (ℕ × ℕ) Senseless}
+      (T : RouteTurn r₁ e₁ o s i v r₂ e₂ went went₂ 0 came₂ a) (long : most_entries ≤ length went) where
+    pub stops_bad : {z : Senseless} (x : Result Heads Senseless) → a ≡ Err z → IsErr x
+        → StopsPut r e o s i v r₂ e₂ came came₂ went went₂ gone gone₁ x
+    stops_bad x q k = record {
+      within = within_err _ _ _ _ k;
+      done = λ p l D N. never_ok (sym q ∙ (turned N (A.freely p D) T long).edges.answer);
     }
 
-    pub stops_done : {g h c : ℕ} → b ≡ heads.Upto g → a ≡ swap.Done h c → length s ≤ most_entries → most_entries ≤ length came
-        → StopsPut r e o s i v r₂ e₂ came came₂ went went₂ gone gone₁ (Done c h g)
+    pub stops_done : {g h c : ℕ} → b ≡ Ok g → a ≡ Ok (h, c) → length s ≤ most_entries → most_entries ≤ length came
+        → StopsPut r e o s i v r₂ e₂ came came₂ went went₂ gone gone₁ (Ok (record { came = c; went = h; gone = g }))
     stops_done {g} {h} {c} q z few room = record {
       within = let (x, y) = T.short h c z in (omega arith, x, A.within g q);
-      seated = λ y. done_room y;
       done = λ p l D N. put_done N (A.freely p D) T long z q few;
     }
-
-pub ruleset stopping = (rules, stops_never, stops_bad, stops_done)
 
 -- ── the put ──
 
@@ -177,29 +184,58 @@ module _ {n o : ℕ} {l expected out stops : List ℕ} {sn : Snap} (N : Snapped 
     told : (p : Plan) → Asked r e p expected n o → b ≡ ltb most_entries (in_force (put_plan p o l).desk.routes)
     told p Q = C p l Q.desked.sound Q.desked.routes Q.owner (N.valid ∙ ap (λ (j : ℕ). length (read j l).stops) Q.jobs)
 
-    pub put_full : {came went gone : List ℕ} → b ≡ true → PutPromised r e expected n o l r e came came went went gone gone NoRoom
+    pub put_full : {came went gone : List ℕ} → b ≡ true → PutPromised r e expected n o l r e came came went went gone gone (Err NoRoom)
     put_full q = record {
       within = tt;
       done = λ p Q z. clash (sym (told p Q) ∙ q) (le-ltb most_entries (in_force (put_plan p o l).desk.routes) z);
       full = λ p Q z. (refl, refl, refl);
       stays = λ q. (refl, refl);
+      refuses = λ k z. inr (sym (refusal_same z));
     }
 
-    pub put_stops : {i v : ℕ} {came went gone r' e' came' went' gone' : List ℕ} {a : Outcome} → b ≡ false → length out ≡ most_entries
-        → i ≡ sn.invalid → v ≡ sn.violations → StopsPut r e o (take sn.valid stops) i v r' e' came came' went went' gone gone' a
-        → PutPromised r e expected n o l r' e' came came' went went' gone gone' a
-    put_stops q h ei ev T = record {
-      within = T.within;
-      done = λ p Q z. T.done p l Q.desked (record {
+    module _ {i v : ℕ} {came went gone r' e' came' went' gone' : List ℕ} {a : Result Heads Senseless} (q : b ≡ false)
+        (h : length out ≡ most_entries) (ei : i ≡ sn.invalid) (ev : v ≡ sn.violations)
+        (T : StopsPut r e o (take sn.valid stops) i v r' e' came came' went went' gone gone' a) where
+      put_done_in : (p : Plan) → Asked r e p expected n o → in_force (put_plan p o l).desk.routes ≤ most_entries
+          → PutDone p o l r' e' came' went' gone' a
+      put_done_in p Q z = T.done p l Q.desked (record {
         owner = Q.owner;
         entries = few;
         stops = stops_read h ∙ ap (λ (j : ℕ). words (read j l).stops) Q.jobs;
         invalid = ei ∙ N.invalid ∙ ap (λ (j : ℕ). (read j l).invalid) Q.jobs;
         violations = ev ∙ N.violations p.base Q.stated ∙ ap (λ (j : ℕ). violations_of p.base o (read j l)) Q.jobs;
         room = z;
-      });
-      full = λ p Q z. clash (lt-ltb most_entries (in_force (put_plan p o l).desk.routes) z) (sym (told p Q) ∙ q);
-      stays = λ z. absurd (T.seated z);
-    }
+      })
 
-pub ruleset putting = (rules, valid_few, stops_few, put_full, put_stops)
+      roomy : {A : Type 0} (p : Plan) → Asked r e p expected n o → most_entries < in_force (put_plan p o l).desk.routes → A
+      roomy p Q z = clash (lt-ltb most_entries (in_force (put_plan p o l).desk.routes) z) (sym (told p Q) ∙ q)
+
+      pub put_senseless : {z : Senseless} (x : Result Heads Refusal) → a ≡ Err z → IsErrAnd x (λ k. k ≡ BadStore)
+          → PutPromised r e expected n o l r' e' came came' went went' gone gone' x
+      put_senseless x k y = let (d, at, is) = err_from_is_err_and x y in record {
+        within = within_err _ _ _ _ (ap is_err at);
+        done = λ p Q z. never_ok (sym k ∙ (put_done_in p Q z).answer);
+        full = λ p Q z. roomy p Q z;
+        stays = λ z. absurd (bad_is_no_room (sym is ∙ refusal_same (sym at ∙ z)));
+        refuses = λ c z. inl (sym (refusal_same (sym at ∙ z)) ∙ is);
+      }
+
+      pub put_stops : {x : Heads} → a ≡ Ok x → PutPromised r e expected n o l r' e' came came' went went' gone gone' (Ok x)
+      put_stops k = record {
+        within = rw k at T.within;
+        done = λ p Q z. let D = put_done_in p Q z in record {
+          heads = D.heads;
+          answer = ap Ok (ok_same (sym k ∙ D.answer));
+          desked = D.desked;
+          queued = D.queued;
+          few_came = D.few_came;
+          few_went = D.few_went;
+          few_gone = D.few_gone;
+          came_queued = D.came_queued;
+        };
+        full = λ p Q z. roomy p Q z;
+        stays = λ z. ok_no_refusal z;
+        refuses = λ c z. ok_no_refusal z;
+      }
+
+pub ruleset putting = (rules, valid_few, stops_few, put_full, put_senseless, put_stops)

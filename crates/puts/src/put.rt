@@ -3,15 +3,15 @@ ghost use Rattle.std.specs.Prelude.{◌≡◌, ◌<◌, ◌≤◌, length};
 ghost use Rattle.rules.specs.Sizes.{most_jobs, most_entries, edges_length, routes_length};
 ghost use Rattle.puts.specs.Puts.{RouteTurn, OneEmptied, EachEmptied, AllEmptied, Crowded, StopsPut, PutPromised};
 
-use routes::exchange::{Heads, Swap, exchange};
+use routes::exchange::exchange;
 use routes::route::{fits, put_route};
 use routes::rows::{in_force, stops};
 use routes::snap::snapshot;
 use routes::wait::{clear, freed, waiting};
-use rules::{Owner, Plan};
+use rules::{Owner, Plan, Refusal, Senseless};
 
 // The owner's route becomes the stops s, and the edges follow: the heads of those that vanished are listed in `went` from `at` on, of those
-// that appeared in `came`.
+// that appeared in `came`. The answer is how far both reach.
 fn swap_route(
     r: &mut [u16],
     e: &mut [u16],
@@ -22,25 +22,21 @@ fn swap_route(
     went: &mut [u16],
     at: usize,
     came: &mut [u16],
-) -> Swap
+) -> Result<(usize, usize), Senseless>
     requires sizes { (length r.old ≡ routes_length) × (length e.old ≡ edges_length) × (length s.now ≤ most_entries) }
     requires room { (at ≤ length went.old) × (length s.now ≤ length came.old) }
     ensures { RouteTurn r.old e.old owner.0 s.now invalid violated r.new e.new
         went.old went.new at came.new result }
 {
     if !fits(&r[..], owner, s.len()) {
-        return Swap::Bad;
+        return Err(Senseless);
     }
-    match exchange(e, stops(&r[..], owner), s, went, at, came) {
-        Swap::Bad => Swap::Bad,
-        Swap::Done(h, c) => {
-            put_route(r, owner, s, invalid, violated);
-            Swap::Done(h, c)
-        }
-    }
+    let reach = exchange(e, stops(&r[..], owner), s, went, at, came)?;
+    put_route(r, owner, s, invalid, violated);
+    Ok(reach)
 }
 
-// The waiting owner w, unless it is `owner`, gets an empty route.
+// The waiting owner w, unless it is `owner`, gets an empty route. The answer is how far the heads of edges that vanished reach then.
 fn empty_one(
     r: &mut [u16],
     e: &mut [u16],
@@ -48,43 +44,45 @@ fn empty_one(
     owner: Owner,
     went: &mut [u16],
     at: usize,
-) -> Heads
+) -> Result<usize, Senseless>
     requires { (length r.old ≡ routes_length) × (length e.old ≡ edges_length) × (at ≤ length went.old) }
     ensures { OneEmptied r.old e.old w owner.0 r.new e.new
         went.old went.new at result }
 {
-    let none = [0u16; 1];
-    let mut came = [0u16; 1];
-    let waiter = w as u32;
+    let waiter = u32::from(w);
     if waiter == owner.0 {
-        return Heads::Upto(at);
+        return Ok(at);
     }
-    match swap_route(r, e, Owner(waiter), &none[..0], 0, 0, went, at, &mut came) {
-        Swap::Bad => Heads::Bad,
-        Swap::Done(h, _) => Heads::Upto(h),
-    }
+    let (h, _) = swap_route(r, e, Owner(waiter), &[], 0, 0, went, at, &mut [])?;
+    Ok(h)
 }
 
 // The owners of a row in turn.
-fn empty_each(r: &mut [u16], e: &mut [u16], row: &[u16], owner: Owner, went: &mut [u16]) -> Heads
+fn empty_each(
+    r: &mut [u16],
+    e: &mut [u16],
+    row: &[u16],
+    owner: Owner,
+    went: &mut [u16],
+) -> Result<usize, Senseless>
     requires { (length r.old ≡ routes_length) × (length e.old ≡ edges_length) × (most_entries ≤ length went.old) }
     ensures { EachEmptied r.old e.old row.now owner.0 r.new e.new
         went.old went.new result }
 {
-    let mut at: usize = 0;
-    let mut i: usize = 0;
-    while i < row.len() {
-        match empty_one(r, e, row[i], owner, went, at) {
-            Heads::Bad => return Heads::Bad,
-            Heads::Upto(h) => at = h,
-        }
-        i += 1;
+    let mut at = 0;
+    for &w in row {
+        at = empty_one(r, e, w, owner, went, at)?;
     }
-    Heads::Upto(at)
+    Ok(at)
 }
 
 // All that wait, and nobody waits any more. Who waits is copied, since the routes change on the way.
-fn empty_all(r: &mut [u16], e: &mut [u16], owner: Owner, went: &mut [u16]) -> Heads
+fn empty_all(
+    r: &mut [u16],
+    e: &mut [u16],
+    owner: Owner,
+    went: &mut [u16],
+) -> Result<usize, Senseless>
     requires { (length r.old ≡ routes_length) × (length e.old ≡ edges_length) × (most_entries ≤ length went.old) }
     ensures { AllEmptied r.old e.old owner.0 r.new e.new
         went.old went.new result }
@@ -93,13 +91,9 @@ fn empty_all(r: &mut [u16], e: &mut [u16], owner: Owner, went: &mut [u16]) -> He
     let row = waiting(&r[..]);
     let k = row.len();
     words::copy(&mut who, 0, row, 0, k);
-    match empty_each(r, e, &who[..k], owner, went) {
-        Heads::Bad => Heads::Bad,
-        Heads::Upto(h) => {
-            clear(r);
-            Heads::Upto(h)
-        }
-    }
+    let h = empty_each(r, e, &who[..k], owner, went)?;
+    clear(r);
+    Ok(h)
 }
 
 // After the put more than `Plan::ENTRIES` valid entries would be in force.
@@ -112,12 +106,12 @@ fn crowded(r: &[u16], owner: Owner, valid: usize) -> bool
     Plan::ENTRIES + out + own < in_force(r) + valid
 }
 
-// What a put came to: how many heads appeared, vanished through the owner, and vanished through waiting owners.
+// How many heads of edges a put listed: of those that appeared, vanished through the owner, and vanished through waiting owners.
 #[derive(Clone, Copy)]
-pub enum Outcome {
-    Done(usize, usize, usize),
-    NoRoom,
-    Bad,
+pub struct Heads {
+    pub came: usize,
+    pub went: usize,
+    pub gone: usize,
 }
 
 // The waiting owners give up their routes, then the owner's becomes the stops s.
@@ -131,19 +125,19 @@ fn put_stops(
     came: &mut [u16],
     went: &mut [u16],
     gone: &mut [u16],
-) -> Outcome
+) -> Result<Heads, Senseless>
     requires sizes { (length r.old ≡ routes_length) × (length e.old ≡ edges_length) × (length s.now ≤ most_entries) }
     requires room { (most_entries ≤ length came.old) × (most_entries ≤ length went.old) × (most_entries ≤ length gone.old) }
     ensures { StopsPut r.old e.old owner.0 s.now invalid violated r.new e.new
         came.old came.new went.old went.new gone.old gone.new result }
 {
-    match empty_all(r, e, owner, gone) {
-        Heads::Bad => Outcome::Bad,
-        Heads::Upto(g) => match swap_route(r, e, owner, s, invalid, violated, went, 0, came) {
-            Swap::Bad => Outcome::Bad,
-            Swap::Done(h, c) => Outcome::Done(c, h, g),
-        },
-    }
+    let g = empty_all(r, e, owner, gone)?;
+    let (h, c) = swap_route(r, e, owner, s, invalid, violated, went, 0, came)?;
+    Ok(Heads {
+        came: c,
+        went: h,
+        gone: g,
+    })
 }
 
 // The owner's route becomes these entries. The heads of edges that appeared are listed in `came`, of those that vanished through the owner
@@ -158,7 +152,7 @@ pub fn put(
     came: &mut [u16],
     went: &mut [u16],
     gone: &mut [u16],
-) -> Outcome
+) -> Result<Heads, Refusal>
     requires sizes { (length r.old ≡ routes_length) × (length e.old ≡ edges_length) × (length entries.now ≤ most_entries) × (plan.jobs ≤ most_jobs) }
     requires room { (most_entries ≤ length came.old) × (most_entries ≤ length went.old) × (most_entries ≤ length gone.old) }
     ensures { PutPromised r.old e.old expected.now plan.jobs owner.0 entries.now
@@ -169,11 +163,11 @@ pub fn put(
     let snap = snapshot(entries, plan, expected, owner, &mut all);
     let valid = snap.valid;
     if crowded(&r[..], owner, valid) {
-        return Outcome::NoRoom;
+        return Err(Refusal::NoRoom);
     }
     let invalid = snap.invalid as u16;
     let violated = snap.violations as u16;
-    put_stops(
+    let heads = put_stops(
         r,
         e,
         owner,
@@ -183,5 +177,6 @@ pub fn put(
         came,
         went,
         gone,
-    )
+    )?;
+    Ok(heads)
 }

@@ -12,7 +12,7 @@ use Rattle.routes.specs.Turning.{heads_all, turn_all, Parts}
 use Rattle.routes.specs.Desks.{edges_of}
 use Rattle.routes.specs.Promises.{Gives, EdgesTurned, EdgesTurn}
 use Rattle.routes.proofs.Codes.{codes_few}
-use Rattle.routes.proofs.Swapping.{never_done}
+use Rattle.routes.proofs.Sweeping.{never_ok}
 use Rattle.routes.proofs.Staging.{went_queues, came_queues, ready, staged_holds}
 
 -- the sound plan after a route that may be put
@@ -23,7 +23,7 @@ gives_sound {p} {o} {x = x} S G = turning_sound p o x S G.owner G.reads G.room
 pub exchange_short : (old new e went : List ℕ) (at : ℕ) (came : List ℕ) {z : Senseless} → length went - at < length old
     → EdgesTurn old new e e went went at came (Err z)
 exchange_short old new e went at came h = record {
-  short = λ h c q. never_done q;
+  short = λ h c q. never_ok q;
   turned = λ p o x S H q G u. absurd (omega arith);
 }
 

@@ -40,12 +40,7 @@ ready_out [] m = tt
 ready_out (x ∷ l) m = (tt, ready_out l (turn_one false m x))
 
 pub done_both : {a b c d : ℕ} → ◌≡◌ {A = Result (ℕ × ℕ) Senseless} (Ok (a, b)) (Ok (c, d)) → (a ≡ c) × (b ≡ d)
-done_both {a} {b} {c} {d} q =
-    let p : ◌≡◌ {A = ℕ × ℕ} (a, b) (c, d) = cc in
-    (ap (λ (x : ℕ × ℕ). x.0) p, ap (λ (x : ℕ × ℕ). x.1) p)
-
-pub never_done : {A : Type 0} {z : Senseless} {a b : ℕ} → ◌≡◌ {A = Result (ℕ × ℕ) Senseless} (Err z) (Ok (a, b)) → A
-never_done q = let z : ◌≡◌ {A = ℕ} 0 1 = cc in absurd (omega arith)
+done_both q = (ap (λ (x : ℕ × ℕ). x.0) (ok_same q), ap (λ (x : ℕ × ℕ). x.1) (ok_same q))
 
 -- ── the difference that was found ──
 

@@ -12,15 +12,15 @@ use Rattle.routes.specs.Turning.{head, turn_one, turns, Ready, turn_all, heads_a
 use Rattle.std.specs.Result.{IsErr, is_err}
 use Rattle.words.proofs.Rows.{row_cons, row_none}
 
-pub ok_same : {a b : ℕ} → ◌≡◌ {A = Result ℕ Senseless} (Ok a) (Ok b) → a ≡ b
+pub ok_same : {T : Type 0} {a b : T} → ◌≡◌ {A = Result T Senseless} (Ok a) (Ok b) → a ≡ b
 ok_same q = cc
 
 -- an error, as a `?` hands it on, is no answer
 pub err_never : {A T : Type 0} {r : Result T Senseless} {x : T} → IsErr r → r ≡ Ok x → A
 err_never h q = clash h (ap is_err q)
 
-pub never_ok : {A : Type 0} {z : Senseless} {a : ℕ} → ◌≡◌ {A = Result ℕ Senseless} (Err z) (Ok a) → A
-never_ok q = let z : ◌≡◌ {A = ℕ} 0 1 = cc in absurd (omega arith)
+pub never_ok : {A T : Type 0} {z : Senseless} {x : T} → ◌≡◌ {A = Result T Senseless} (Err z) (Ok x) → A
+never_ok q = err_never refl q
 
 -- ── one ──
 

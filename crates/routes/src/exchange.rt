@@ -10,13 +10,7 @@ use rules::{Job, Plan, Senseless};
 
 // One edge more or less; if it appears or vanishes its head is listed at h. The answer is how far the heads reach then. A number that is no
 // edge is passed over.
-fn turn(
-    e: &mut [u16],
-    x: u32,
-    more: bool,
-    heads: &mut [u16],
-    h: usize,
-) -> Result<usize, Senseless>
+fn turn(e: &mut [u16], x: u32, more: bool, heads: &mut [u16], h: usize) -> Result<usize, Senseless>
     requires { (length e.old ≡ edges_length) × (h < length heads.old) }
     ensures { Turns more (x ∷ []) e.old e.new heads.old heads.new h result }
 {
