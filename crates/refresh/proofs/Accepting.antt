@@ -16,10 +16,9 @@ use Rattle.rules.specs.Calls.{refused, to_load, refusal, accepted, change_of}
 use Rattle.rules.proofs.Refused.{accepted_step}
 use Rattle.times.specs.Words.{time_words}
 use Rattle.times.specs.Settles.{Given, Renews}
-use Rattle.stores.specs.declared.score.Scored.{Scored}
+use Rattle.rules.specs.declared.Score.{Score}
 use Rattle.stores.specs.Promise.{Slices, slices, lent_of, call_of, Held, after, answer_of, AnyPromise}
-use Rattle.refresh.specs.declared.load.Checked.{Checked}
-use Rattle.refresh.specs.declared.load.Checked.TheVariants.{Fine, Refused as Unfit}
+use Rattle.std.specs.Prelude.{Result, Ok, Err}
 use Rattle.refresh.specs.Loads.{checked_as}
 use Rattle.stores.specs.Says.{says_scored}
 use Rattle.stores.specs.Sums.{ScoredBy}
@@ -36,7 +35,7 @@ module _ {b s e r : List ℕ} {m n : ℕ} (same : m ≡ n) where
   given : (p : Plan) → Untimed p b s e r n → Given p (take edges_length e) (take spans_length s) m
   given p U = record { sound = U.desk.sound; edges = U.desk.edges; spans = U.spans; jobs = same ∙ U.jobs }
 
-  pub rates_is : {t ts : List ℕ} {w : Report} {x : Scored} → Renews (take edges_length e) (take spans_length s) m w ts → length ts ≡ times_length
+  pub rates_is : {t ts : List ℕ} {w : Report} {x : Result Score Refusal} → Renews (take edges_length e) (take spans_length s) m w ts → length ts ≡ times_length
       → ScoredBy b r (ts ++ drop times_length t) n x → Rates b s e r t n x (ts ++ drop times_length t)
   rates_is {t} {ts} {x = x} R k S = record { is = rated }
     where
@@ -61,17 +60,17 @@ module _ (l : Loading) (s : Slices) {b : Bool} (lengths : b ≡ is_short (lent_o
     zero = λ k q. ap change_of q;
   }
 
-  module _ (e : b ≡ false) {k : Checked} (checks : k ≡ checked_as (first_of (load_checks l))) where
+  module _ (e : b ≡ false) {k : Result (Unit {0}) Refusal} (checks : k ≡ checked_as (first_of (load_checks l))) where
     refusal_is : (t : State) → refusal t (call_of (to_load l) s) ≡ first_of (load_checks l)
     refusal_is t = refusal_long t (to_load l) s (sym lengths ∙ e)
 
-    pub load_refused : {r : Refusal} → k ≡ Unfit r → AnyPromise (to_load l) s s (refused r)
+    pub load_refused : {r : Refusal} → k ≡ Err r → AnyPromise (to_load l) s s (refused r)
     load_refused {r} q = record {
       decides = λ t. decided_refused t (to_load l) s [] r (refusal_is t ∙ checked_some (first_of (load_checks l)) (sym q ∙ checks));
       zero = λ k q. ap change_of q;
     }
 
-    module _ (q : k ≡ Fine) where
+    module _ (q : k ≡ Ok tt) where
       fine : first_of (load_checks l) ≡ none
       fine = checked_none (first_of (load_checks l)) (sym q ∙ checks)
 
@@ -83,7 +82,7 @@ module _ (l : Loading) (s : Slices) {b : Bool} (lengths : b ≡ is_short (lent_o
       none_refused : (t : State) → refusal t (call_of (to_load l) s) ≡ none
       none_refused t = refusal_is t ∙ fine
 
-      module _ {s' : Slices} {x : Scored} (F : Filled (fresh (base_of l)) s s' x) where
+      module _ {s' : Slices} {x : Result Score Refusal} (F : Filled (fresh (base_of l)) s s' x) where
         leaves : (t : State) → s' ≡ after t (call_of (to_load l) s) s
         unfolding after accepted
         leaves t = F.leaves ∙ sym (rw (none_refused t, accepted_step t (call_of (to_load l) s) (none_refused t)))

@@ -17,7 +17,7 @@ use Rattle.rules.specs.Sizes.{most_jobs, most_owners, most_fixed, Loading, break
 use Rattle.rules.proofs.Members.{or_false}
 use Rattle.rules.proofs.Ranges.{and_true}
 use Rattle.rules.specs.Refusals.{first_of, load_checks}
-use Rattle.refresh.specs.declared.load.Checked.TheVariants.{Fine, Refused}
+use Rattle.std.specs.Prelude.{Ok, Err}
 use Rattle.refresh.specs.Loads.{breaks_by, bad_after, checked_as}
 
 -- ── sizes ──
@@ -125,27 +125,27 @@ module _ (l : Loading) where
   unfolding bad_from bad_after
   from_is = refl
 
-  pub checked_size : true ≡ Broken → Refused BadSize ≡ checked_as (first_of (load_checks l))
+  pub checked_size : true ≡ Broken → Err BadSize ≡ checked_as (first_of (load_checks l))
   checked_size a = rw (broken_is, ← a)
 
-  pub checked_long : false ≡ Broken → true ≡ any_of is_long l.durations → Refused LongDuration ≡ checked_as (first_of (load_checks l))
+  pub checked_long : false ≡ Broken → true ≡ any_of is_long l.durations → Err LongDuration ≡ checked_as (first_of (load_checks l))
   checked_long a b = rw (broken_is, ← a, long_is, ← b)
 
   pub checked_from : false ≡ Broken → false ≡ any_of is_long l.durations → true ≡ bad_after l.jobs 0 l.from
-      → Refused BadFixed ≡ checked_as (first_of (load_checks l))
+      → Err BadFixed ≡ checked_as (first_of (load_checks l))
   checked_from a b c = rw (broken_is, ← a, long_is, ← b, from_is, ← c)
 
   pub checked_fine : false ≡ Broken → false ≡ any_of is_long l.durations → false ≡ bad_after l.jobs 0 l.from
-      → Fine ≡ checked_as (first_of (load_checks l))
+      → Ok tt ≡ checked_as (first_of (load_checks l))
   checked_fine a b c = rw (broken_is, ← a, long_is, ← b, from_is, ← c)
 
 -- ── what an accepted load has shown ──
 
-pub checked_none : (o : Option Refusal) → Fine ≡ checked_as o → o ≡ none
+pub checked_none : (o : Option Refusal) → Ok tt ≡ checked_as o → o ≡ none
 checked_none none e = refl
 checked_none (some r) e = let z : ◌≡◌ {A = ℕ} 0 1 = cc in absurd (omega arith)
 
-pub checked_some : (o : Option Refusal) {r : Refusal} → Refused r ≡ checked_as o → o ≡ some r
+pub checked_some : (o : Option Refusal) {r : Refusal} → Err r ≡ checked_as o → o ≡ some r
 checked_some none e = let z : ◌≡◌ {A = ℕ} 0 1 = cc in absurd (omega arith)
 checked_some (some q) {r} e = let z : q ≡ r = cc in ap some z
 

@@ -20,7 +20,9 @@ use Rattle.routes.proofs.Wellformed.{has_words}
 use Rattle.edges.specs.Fixed.{Fixing, Written}
 use Rattle.edges.proofs.Freshness.{fresh_held}
 use Rattle.times.specs.Words.{span_words}
-use Rattle.stores.specs.declared.score.Scored.{Scored}
+use Rattle.rules.specs.declared.Refusal.{Refusal}
+use Rattle.rules.specs.declared.Score.{Score}
+use Rattle.std.specs.Prelude.{Result}
 use Rattle.stores.specs.Words.{padded, base_words, base_laid}
 use Rattle.stores.specs.Promise.{Slices, slices, holding}
 use Rattle.refresh.specs.Fills.{Over, Laid, Rated, Rates, Filled}
@@ -107,7 +109,7 @@ module _ (l : Loading) (fine : first_of (load_checks l) ≡ none) where
       }
 
   -- the plan's words but for the times, then its times and its score
-  pub filled : {s : Slices} {b' s' e' r' t' : List ℕ} {x : Scored}
+  pub filled : {s : Slices} {b' s' e' r' t' : List ℕ} {x : Result Score Refusal}
       → Laid (fresh (base_of l)) s.base s.spans s.edges s.routes b' s' e' r'
       → Rates b' s' e' r' s.times l.jobs x t'
       → Filled (fresh (base_of l)) s (slices b' s' e' r' t') x

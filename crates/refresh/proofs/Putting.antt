@@ -16,7 +16,7 @@ use Rattle.rules.specs.declared.Report.{Report}
 use Rattle.rules.specs.declared.Refusal.{Refusal}
 use Rattle.rules.specs.declared.Refusal.TheVariants.{NoRoom, BadStore, NoSuchOwner, TooManyEntries}
 use Rattle.rules.specs.Lists.{Pair, table, memb}
-use Rattle.rules.specs.Sizes.{Base, Lent, expected_of, is_short, most_entries, most_fixed, most_jobs, most_owners, nobodys, base_length, edges_length, routes_length, spans_length, times_length}
+use Rattle.rules.specs.Sizes.{Base, expected_of, is_short, most_entries, most_fixed, most_jobs, most_owners, nobodys, base_length, edges_length, routes_length, spans_length, times_length}
 use Rattle.rules.specs.Routes.{Plan, put_plan, in_force}
 use Rattle.rules.specs.Refusals.{Check, first_of, no_owner, too_many, no_room, number_of}
 use Rattle.rules.specs.Scores.{invalid_fixed, score, minus_of}
@@ -35,13 +35,8 @@ use Rattle.puts.specs.Puts.{Asked, PutPromised}
 use Rattle.routes.proofs.Asking.{refusal_of, ask_is, ask_owner, ask_many}
 use Rattle.times.specs.Words.{span_words}
 use Rattle.times.specs.Settles.{Refreshes, Refreshed}
-use Rattle.stores.specs.declared.header.Header.{Header}
-use Rattle.stores.specs.declared.header.Header.TheVariants.{Is as Headed, Refused as Unopened}
-use Rattle.stores.specs.declared.score.Scored as scored
-use Rattle.refresh.specs.declared.put.Followed.{Followed}
-use Rattle.refresh.specs.declared.put.Followed.TheVariants.{Is, Refused as Unfollowed}
-use Rattle.refresh.specs.declared.put.Changed.{Changed}
-use Rattle.refresh.specs.declared.put.Changed.TheVariants.{By, Refused}
+use Rattle.refresh.specs.declared.put.Change.{Change}
+use Rattle.std.specs.Prelude.{Result, Ok, Err}
 use Rattle.stores.specs.Words.{base_words, padded, froms, tos, expected_at}
 use Rattle.stores.specs.Headers.{open_of, counts_of}
 use Rattle.stores.specs.Promise.{checks_by, Heeds, Slices, slices, lent_of, call_of, Held, holding, after, Decided, Promise}
@@ -50,7 +45,6 @@ use Rattle.refresh.specs.Changes.{says_changed, Worded, Puts, Follows, Changes}
 use Rattle.edges.proofs.Listing.{between}
 use Rattle.rules.proofs.Tabled.{table_at}
 use Rattle.stores.proofs.Laying.{padded_length}
-use Rattle.stores.proofs.Openings.{Opened, open_is}
 use Rattle.stores.proofs.Promises.{closed_kept, opened_kept, decided_refused, refusal_long, held_same, heeds_first, heeds_later}
 use Rattle.stores.proofs.Scores.{scored_held}
 
@@ -104,14 +98,14 @@ module _ {base sp e r ts e' r' came came' went went' gone gone' xs : List ℕ} {
   }
 
   -- a store that no calls could have left
-  pub follow_bad : a ≡ outcome.TheVariants.Bad → {s' : Slices} → Follows (slices base sp e r ts) s' n o l (Unfollowed BadStore)
+  pub follow_bad : a ≡ outcome.TheVariants.Bad → {s' : Slices} → Follows (slices base sp e r ts) s' n o l (Err BadStore)
   follow_bad q = record {
     done = λ p A h. let D = (P.done p (asked p A) h).answer in never cc;
     full = λ p A h. let D = (P.full p (asked p A) h).0 in never cc;
     stays = λ k e. inl cc;
   }
 
-  pub follow_full : a ≡ outcome.TheVariants.NoRoom → Follows (slices base sp e r ts) (slices base sp e' r' ts) n o l (Unfollowed NoRoom)
+  pub follow_full : a ≡ outcome.TheVariants.NoRoom → Follows (slices base sp e r ts) (slices base sp e' r' ts) n o l (Err NoRoom)
   follow_full q = record {
     done = λ p A h. let D = (P.done p (asked p A) h).answer in never cc;
     full = λ p A h. let (x, y, z) = P.full p (asked p A) h in (refl, rw (y, z));
@@ -141,10 +135,10 @@ module _ {base sp e r ts e' r' came came' went went' gone gone' xs : List ℕ} {
     no_full : (p : Plan) → Puts (slices base sp e r ts) n o l p → most_entries < in_force (put_plan p o l).desk.routes → ⊥
     no_full p A h = let d = (P.full p (asked p A) h).0 in never cc
 
-    pub follow_done : Follows (slices base sp e r ts) (slices base sp e' r' ts') n o l (Is x)
+    pub follow_done : Follows (slices base sp e r ts) (slices base sp e' r' ts') n o l (Ok x)
     follow_done = record {
       done = λ p A h. let R = refreshed p A h in record {
-        reports = ap Is R.report;
+        reports = ap Ok R.report;
         worded = record {
           base = A.worded.base ∙ ap base_words (sym (put_base p o l));
           spans = A.worded.spans ∙ ap span_words (sym (put_base p o l));
@@ -176,48 +170,48 @@ module _ {s : Slices} (C : Cut s) where
     times = take_all times_length s.times (let x = C.4 in omega arith) ∙ W.times;
   }
 
-  scored_worded : {n : ℕ} {a : scored.Scored} → ScoredBy s.base s.routes s.times n a → (p : Plan) → n ≡ p.base.jobs
-      → Worded s p → a ≡ scored.TheVariants.Is (score p)
+  scored_worded : {n : ℕ} {a : Result Score Refusal} → ScoredBy s.base s.routes s.times n a → (p : Plan) → n ≡ p.base.jobs
+      → Worded s p → a ≡ Ok (score p)
   scored_worded q p j W = scored_held s p (worded_held p W) q j
 
-module _ {s : Slices} {n o : ℕ} {l : List ℕ} (C : Cut s) {a : scored.Scored} (q : ScoredBy s.base s.routes s.times n a) where
-  before_is : (p : Plan) → Puts s n o l p → a ≡ scored.TheVariants.Is (score p)
+module _ {s : Slices} {n o : ℕ} {l : List ℕ} (C : Cut s) {a : Result Score Refusal} (q : ScoredBy s.base s.routes s.times n a) where
+  before_is : (p : Plan) → Puts s n o l p → a ≡ Ok (score p)
   before_is p A = scored_worded C q p A.jobs A.worded
 
-  pub rescore_bad : {r : Refusal} → a ≡ scored.TheVariants.Refused r → {s' : Slices} → Changes s s' n o l (Refused r)
+  pub rescore_bad : {r : Refusal} → a ≡ Err r → {s' : Slices} → Changes s s' n o l (Err r)
   rescore_bad {r} e = record {
     done = λ p A h. let b = before_is p A in never cc;
     full = λ p A h. let b = before_is p A in never cc;
     stays = λ k f. let z : r ≡ BadStore = q.twelve r e in inl cc;
   }
 
-  module _ {s' : Slices} {f : Followed} (F : Follows s s' n o l f) where
-    pub rescore_refused : {r : Refusal} → f ≡ Unfollowed r → Changes s s' n o l (Refused r)
+  module _ {s' : Slices} {f : Result Report Refusal} (F : Follows s s' n o l f) where
+    pub rescore_refused : {r : Refusal} → f ≡ Err r → Changes s s' n o l (Err r)
     rescore_refused {r} e = record {
       done = λ p A h. let d = (F.done p A h).reports in never cc;
-      full = λ p A h. let (d, k) = F.full p A h in let z : r ≡ NoRoom = cc in (ap Refused z, k);
-      stays = λ k f. let z : r ≡ k = cc in F.stays k (e ∙ ap Unfollowed z);
+      full = λ p A h. let (d, k) = F.full p A h in let z : r ≡ NoRoom = cc in (ap Err z, k);
+      stays = λ k f. let z : r ≡ k = cc in F.stays k (e ∙ ap Err z);
     }
 
-    module _ (C' : Cut s') {b : scored.Scored} (q' : ScoredBy s'.base s'.routes s'.times n b) {report : Report}
-        (e : f ≡ Is report) where
+    module _ (C' : Cut s') {b : Result Score Refusal} (q' : ScoredBy s'.base s'.routes s'.times n b) {report : Report}
+        (e : f ≡ Ok report) where
       after_is : (p : Plan) → Puts s n o l p → in_force (put_plan p o l).desk.routes ≤ most_entries
-          → b ≡ scored.TheVariants.Is (score (put_plan p o l))
+          → b ≡ Ok (score (put_plan p o l))
       after_is p A h = scored_worded C' q' (put_plan p o l)
           (A.jobs ∙ ap (λ (x : Base). x.jobs) (sym (put_base p o l))) (F.done p A h).worded
 
       followed_full : (p : Plan) → Puts s n o l p → most_entries < in_force (put_plan p o l).desk.routes → ⊥
       followed_full p A h = let d = (F.full p A h).0 in never cc
 
-      pub rescore_lost : {r : Refusal} → b ≡ scored.TheVariants.Refused r → Changes s s' n o l (Refused r)
+      pub rescore_lost : {r : Refusal} → b ≡ Err r → Changes s s' n o l (Err r)
       rescore_lost {r} k = record {
         done = λ p A h. let d = after_is p A h in never cc;
         full = λ p A h. absurd (followed_full p A h);
         stays = λ j f. let z : r ≡ BadStore = q'.twelve r k in inl cc;
       }
 
-      pub rescore_done : {x y z : Score} → a ≡ scored.TheVariants.Is x → b ≡ scored.TheVariants.Is y → z ≡ minus_of y x
-          → Changes s s' n o l (By z report)
+      pub rescore_done : {x y z : Score} → a ≡ Ok x → b ≡ Ok y → z ≡ minus_of y x
+          → Changes s s' n o l (Ok (record { score = z; report = report }))
       rescore_done {x} {y} {z} i k m = record {
         done = λ p A h.
             let D = F.done p A h in
@@ -235,9 +229,9 @@ module _ {s : Slices} {n o : ℕ} {l : List ℕ} (C : Cut s) {a : scored.Scored}
 -- ── the call ──
 
 -- a put that says a refusal is one
-says_refused : (x : Changed) (k : Refusal) → says_changed x ≡ refused k → x ≡ Refused k
-says_refused (By s r) k e = never cc
-says_refused (Refused r) k e = cc
+says_refused : (x : Result Change Refusal) (k : Refusal) → says_changed x ≡ refused k → x ≡ Err k
+says_refused (Ok c) k e = never cc
+says_refused (Err r) k e = cc
 
 first_more : (l m : List Check) (r : Refusal) → first_of l ≡ some r → first_of (l ++ m) ≡ some r
 first_more [] m r e = never cc
@@ -296,14 +290,11 @@ module _ (s : Slices) (p : Plan) (H : Held s p) where
   worded_cut : Worded (cut s) p
   worded_cut = record { base = H.base; spans = H.spans; desk = H.desk; times = H.times }
 
-pub opens_to : {s : Lent} {l : List ℕ} {h : Header} {plan : Counts} → h ≡ open_of s l → h ≡ Headed plan → Opened s l plan
-opens_to {s} {l} {plan = plan} opens is = open_is s l plan (sym opens ∙ is)
-
-module _ (s : Slices) (o : ℕ) (l : List ℕ) {h : Header} (opens : h ≡ open_of (lent_of s) s.base) where
-  pub put_closed : {r : Refusal} → h ≡ Unopened r → Promise (to_put o l) s s [] [] (refused r)
+module _ (s : Slices) (o : ℕ) (l : List ℕ) {h : Result Counts Refusal} (opens : h ≡ open_of (lent_of s) s.base) where
+  pub put_closed : {r : Refusal} → h ≡ Err r → Promise (to_put o l) s s [] [] (refused r)
   put_closed = closed_kept (to_put o l) s opens [] refl
 
-  module _ {plan : Counts} (is : h ≡ Headed plan) {a : Ask} (asks : a ≡ ask_of plan.owners o (length l)) where
+  module _ {plan : Counts} (is : h ≡ Ok plan) {a : Ask} (asks : a ≡ ask_of plan.owners o (length l)) where
     -- 5, then 6
     asked_first : (p : Plan) → plan ≡ counts_of p.base → refusal_of a ≡ first_of (no_owner p o ∷ too_many l ∷ [])
     asked_first p q = ap refusal_of (asks ∙ ap (λ (c : Counts). ask_of c.owners o (length l)) q) ∙ ask_is p o l
@@ -319,7 +310,7 @@ module _ (s : Slices) (o : ℕ) (l : List ℕ) {h : Header} (opens : h ≡ open_
         ∙ first_more (no_owner p o ∷ too_many l ∷ []) (no_room p o l ∷ []) r (sym (asked_first p q) ∙ e)))
         (heeds_first (to_put o l) s opens [] (rw is (sym asked_counts ∙ e)))
 
-    module _ (fine : a ≡ Fine) {x : Changed} {e r ts : List ℕ}
+    module _ (fine : a ≡ Fine) {x : Result Change Refusal} {e r ts : List ℕ}
         (X : Changes (cut s) (slices s.base (take spans_length s.spans) e r ts) plan.jobs o l x) where
       abbrev left : Slices
       left = slices s.base (take spans_length s.spans) e r ts

@@ -21,14 +21,13 @@ use Rattle.routes.specs.Desks.{edges_of}
 use Rattle.graphs.specs.Graph.{live as live_in, Below}
 use Rattle.shown.specs.Lowests.{Lowest, Shown}
 use Rattle.shown.specs.Cycles.{Cycles, Looped}
-use Rattle.stores.specs.declared.header.Header.{Header}
-use Rattle.stores.specs.declared.header.Header.TheVariants.{Is as Headed, Refused as Unopened}
+use Rattle.std.specs.Prelude.{Result, Ok, Err}
 use Rattle.refresh.specs.declared.verdict.Judged.{Judged}
-use Rattle.refresh.specs.declared.verdict.Judged.TheVariants.{LineUp, Cycle, Refused}
+use Rattle.refresh.specs.declared.verdict.Judged.TheVariants.{LineUp, Cycle}
 use Rattle.stores.specs.Headers.{open_of}
 use Rattle.stores.specs.Promise.{Slices, lent_of, Held, answer_of, Decided, Promise}
 use Rattle.stores.specs.Says.{places}
-use Rattle.refresh.specs.Shows.{says_verdict, Showing, Shows, Closing}
+use Rattle.refresh.specs.Shows.{shown_as, Showing, Shows, Closing}
 use Rattle.stores.proofs.Tabled.{places_take, taken_sets}
 use Rattle.stores.proofs.Promises.{decided_refused, refusal_long, decided_read, closed_kept, opened_kept, heeds_first, heeds_done}
 use Rattle.times.proofs.Graphing.{below}
@@ -36,10 +35,10 @@ use Rattle.times.proofs.Judging.{order_is, cycle_is}
 
 -- ── what is shown ──
 
-says_refused : (out : List ℕ) (v : Judged) (k : Refusal) → says_verdict out v ≡ refused k → v ≡ Refused k
-says_refused out (LineUp n) k e = absurd (let z : ◌≡◌ {A = ℕ} 0 1 = cc in omega arith)
-says_refused out (Cycle n) k e = absurd (let z : ◌≡◌ {A = ℕ} 0 1 = cc in omega arith)
-says_refused out (Refused r) k e = cc
+-- what is shown is no refusal
+pub never_refused : (out : List ℕ) (v : Judged) (k : Refusal) → shown_as out v ≡ refused k → ⊥
+never_refused out (LineUp n) k e = let z : ◌≡◌ {A = ℕ} 0 1 = cc in omega arith
+never_refused out (Cycle n) k e = let z : ◌≡◌ {A = ℕ} 0 1 = cc in omega arith
 
 -- the answer buffer begins with what was written
 placed : (out l : List ℕ) (k : ℕ) → k ≤ length l → k ≤ length out → places k (sets out 0 (take k l)) ≡ take k l
@@ -66,7 +65,6 @@ module _ {e o o' : List ℕ} {n r : ℕ} (C : Cycles e n o r o') (out : List ℕ
   pub closing_shown : n ≤ most_jobs → n ≤ length out → length o' ≡ most_jobs → {out' : List ℕ} → out' ≡ sets out 0 (take r o')
       → Closing e n out (Cycle r) out'
   closing_shown i l len w = let h = C.within in record {
-    told = λ k e. absurd (let z : ◌≡◌ {A = ℕ} 0 1 = cc in omega arith);
     is = λ p S H j x. cycled_is p S H j r (C.is (edges_of p) H (below_at p S n j)) len (omega arith) (omega arith) x w;
   }
 
@@ -79,12 +77,11 @@ module _ {e o o' : List ℕ} {n : ℕ} {r : Bool} (L : Lowest e n o r o') (out :
     line_up_shown c x = sym (order_is p S) ∙ ap (λ (k : ℕ). order k (live_in (edges_of p))) (sym j) ∙ x
 
   pub shows_closed : r ≡ false → {v : Judged} {out' : List ℕ} → Closing e n out v out' → Shows e n out v out'
-  shows_closed q C = record { told = C.told; is = λ p S H j. C.is p S H j (line_up_shown p S H j none (rw q at (lined p S H j))) }
+  shows_closed q C = record { is = λ p S H j. C.is p S H j (line_up_shown p S H j none (rw q at (lined p S H j))) }
 
   pub shows_lined : r ≡ true → n ≤ most_jobs → n ≤ length out → length o' ≡ most_jobs → {out' : List ℕ} → out' ≡ sets out 0 (take n o')
       → Shows e n out (LineUp n) out'
   shows_lined q i l len {out'} w = record {
-    told = λ k e. absurd (let z : ◌≡◌ {A = ℕ} 0 1 = cc in omega arith);
     is = λ p S H j.
         let x = line_up_shown p S H j (some (take n o')) (rw q at (lined p S H j)) in
         let y : places n out' ≡ take n o' = ap (places n) w ∙ placed out o' n (omega arith) l in
@@ -93,11 +90,11 @@ module _ {e o o' : List ℕ} {n : ℕ} {r : Bool} (L : Lowest e n o r o') (out :
 
 -- ── the call ──
 
-module _ (s : Slices) (out : List ℕ) {h : Header} (opens : h ≡ open_of (lent_of s) s.base) where
-  pub verdict_closed : {r : Refusal} → h ≡ Unopened r → Promise (to_verdict (length out)) s s out out (refused r)
+module _ (s : Slices) (out : List ℕ) {h : Result Counts Refusal} (opens : h ≡ open_of (lent_of s) s.base) where
+  pub verdict_closed : {r : Refusal} → h ≡ Err r → Promise (to_verdict (length out)) s s out out (refused r)
   verdict_closed = closed_kept (to_verdict (length out)) s opens out refl
 
-  module _ {plan : Counts} (is : h ≡ Headed plan) where
+  module _ {plan : Counts} (is : h ≡ Ok plan) where
     pub verdict_few : length out < plan.jobs → Promise (to_verdict (length out)) s s out out (refused ShortAnswer)
     verdict_few k = opened_kept (to_verdict (length out)) s opens s out out (refused ShortAnswer) is (λ f p H q.
         decided_refused (some p) (to_verdict (length out)) s out ShortAnswer
@@ -111,11 +108,11 @@ module _ (s : Slices) (out : List ℕ) {h : Header} (opens : h ≡ open_of (lent
         (refusal_long (some p) (to_verdict (length out)) s f ∙ rw (le-ltb (length out) p.base.jobs k)) out r refl (sym e)
 
     pub verdict_shown : {n : ℕ} {v : Judged} {out' : List ℕ} → n ≡ plan.jobs → n ≤ length out
-        → Shows (take edges_length s.edges) n out v out' → Promise (to_verdict (length out)) s s out out' (says_verdict out' v)
-    verdict_shown {n} {v} {out'} m k X = opened_kept (to_verdict (length out)) s opens s out out' (says_verdict out' v) is (λ f p H q.
+        → Shows (take edges_length s.edges) n out v out' → Promise (to_verdict (length out)) s s out out' (shown_as out' v)
+    verdict_shown {n} {v} {out'} m k X = opened_kept (to_verdict (length out)) s opens s out out' (shown_as out' v) is (λ f p H q.
         let m' : n ≡ p.base.jobs = m ∙ ap (λ (c : Counts). c.jobs) q in
         let x = X.is p H.desk.sound H.desk.edges m' in
-        let d = some_verdict f p H (rw m' at k) (says_verdict out' v) x.says in
+        let d = some_verdict f p H (rw m' at k) (shown_as out' v) x.says in
         record { says = d.says; leaves = d.leaves; answers = x.answers })
         (heeds_done (to_verdict (length out)) s opens (rw (is, le-ltb (length out) plan.jobs (rw m at k)))
-        (λ j e. X.told j (says_refused out' v j e)))
+        (never_refused out' v))

@@ -1,25 +1,23 @@
 -- What a put answers and leaves. Assumes nothing.
-use Rattle.std.specs.Prelude.{ℕ, ◌≤◌, ◌<◌, ◌≡◌, ◌⊎◌, List, length, take}
+use Rattle.std.specs.Prelude.{ℕ, ◌≤◌, ◌<◌, ◌≡◌, ◌⊎◌, List, length, take, Result, Ok, Err}
 use Rattle.rules.specs.declared.Refusal.{Refusal}
+use Rattle.rules.specs.declared.Report.{Report}
 use Rattle.rules.specs.declared.Refusal.TheVariants.{NoRoom, BadStore}
 use Rattle.rules.specs.Sizes.{most_entries, base_length}
 use Rattle.rules.specs.Routes.{Plan, put_plan, in_force}
 use Rattle.rules.specs.Scores.{score, minus_of}
 use Rattle.rules.specs.Reports.{put_report}
-use Rattle.rules.specs.Calls.{Reply, refused, changed}
+use Rattle.rules.specs.Calls.{Reply, changed}
 use Rattle.routes.specs.Desks.{Desked}
 use Rattle.times.specs.Words.{span_words, time_words}
-use Rattle.refresh.specs.declared.put.Followed.{Followed}
-use Rattle.refresh.specs.declared.put.Followed.TheVariants.{Is, Refused as Unfollowed}
-use Rattle.refresh.specs.declared.put.Changed.{Changed}
-use Rattle.refresh.specs.declared.put.Changed.TheVariants.{By, Refused}
+use Rattle.refresh.specs.declared.put.Change.{Change}
 use Rattle.stores.specs.Words.{base_words}
 use Rattle.stores.specs.Promise.{Slices}
+use Rattle.stores.specs.Says.{says}
 
 -- put: the score change and the report
-abbrev pub says_changed : Changed → Reply
-says_changed (By s report) = changed s report
-says_changed (Refused r) = refused r
+abbrev pub says_changed : Result Change Refusal → Reply
+says_changed = says (λ c. changed c.score c.report)
 
 -- slices cut to their constants hold the words of the plan p; the base may be longer
 pub record Worded (s : Slices) (p : Plan) : Type 0 where
@@ -36,22 +34,22 @@ pub record Puts (s : Slices) (n o : ℕ) (l : List ℕ) (p : Plan) : Type 0 wher
   pub few : length l ≤ most_entries
 
 -- with room: the report, and the words of the plan after the put
-pub record FollowDone (s' : Slices) (o : ℕ) (l : List ℕ) (x : Followed) (p : Plan) : Type 0 where
-  pub reports : x ≡ Is (put_report p o l)
+pub record FollowDone (s' : Slices) (o : ℕ) (l : List ℕ) (x : Result Report Refusal) (p : Plan) : Type 0 where
+  pub reports : x ≡ Ok (put_report p o l)
   pub worded : Worded s' (put_plan p o l)
 
-pub record Follows (s s' : Slices) (n o : ℕ) (l : List ℕ) (x : Followed) : Type 0 where
+pub record Follows (s s' : Slices) (n o : ℕ) (l : List ℕ) (x : Result Report Refusal) : Type 0 where
   pub done : (p : Plan) → Puts s n o l p → in_force (put_plan p o l).desk.routes ≤ most_entries → FollowDone s' o l x p
-  pub full : (p : Plan) → Puts s n o l p → most_entries < in_force (put_plan p o l).desk.routes → (x ≡ Unfollowed NoRoom) × (s' ≡ s)
+  pub full : (p : Plan) → Puts s n o l p → most_entries < in_force (put_plan p o l).desk.routes → (x ≡ Err NoRoom) × (s' ≡ s)
   -- of any words: 12, or 7 and nothing was written
-  pub stays : (k : Refusal) → x ≡ Unfollowed k → (k ≡ BadStore) ⊎ ((k ≡ NoRoom) × (s' ≡ s))
+  pub stays : (k : Refusal) → x ≡ Err k → (k ≡ BadStore) ⊎ ((k ≡ NoRoom) × (s' ≡ s))
 
 -- "Returns score after minus score before, part by part."
-pub record ChangeDone (s' : Slices) (o : ℕ) (l : List ℕ) (x : Changed) (p : Plan) : Type 0 where
-  pub says : x ≡ By (minus_of (score (put_plan p o l)) (score p)) (put_report p o l)
+pub record ChangeDone (s' : Slices) (o : ℕ) (l : List ℕ) (x : Result Change Refusal) (p : Plan) : Type 0 where
+  pub says : x ≡ Ok (record { score = minus_of (score (put_plan p o l)) (score p); report = put_report p o l })
   pub worded : Worded s' (put_plan p o l)
 
-pub record Changes (s s' : Slices) (n o : ℕ) (l : List ℕ) (x : Changed) : Type 0 where
+pub record Changes (s s' : Slices) (n o : ℕ) (l : List ℕ) (x : Result Change Refusal) : Type 0 where
   pub done : (p : Plan) → Puts s n o l p → in_force (put_plan p o l).desk.routes ≤ most_entries → ChangeDone s' o l x p
-  pub full : (p : Plan) → Puts s n o l p → most_entries < in_force (put_plan p o l).desk.routes → (x ≡ Refused NoRoom) × (s' ≡ s)
-  pub stays : (k : Refusal) → x ≡ Refused k → (k ≡ BadStore) ⊎ ((k ≡ NoRoom) × (s' ≡ s))
+  pub full : (p : Plan) → Puts s n o l p → most_entries < in_force (put_plan p o l).desk.routes → (x ≡ Err NoRoom) × (s' ≡ s)
+  pub stays : (k : Refusal) → x ≡ Err k → (k ≡ BadStore) ⊎ ((k ≡ NoRoom) × (s' ≡ s))

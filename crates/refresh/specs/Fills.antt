@@ -1,6 +1,8 @@
 -- What a load that is not refused leaves. Assumes nothing.
-use Rattle.std.specs.Prelude.{ℕ, ◌≤◌, ◌≡◌, List, take, drop}
+use Rattle.std.specs.Prelude.{ℕ, ◌≤◌, ◌≡◌, List, take, drop, Result, Ok}
 use Rattle.std.proofs.Math.Option.{none}
+use Rattle.rules.specs.declared.Refusal.{Refusal}
+use Rattle.rules.specs.declared.Score.{Score}
 use Rattle.rules.specs.Sizes.{Loading, base_length, edges_length, routes_length, spans_length, times_length}
 use Rattle.rules.specs.Refusals.{first_of, load_checks}
 use Rattle.rules.specs.Routes.{Plan}
@@ -9,8 +11,6 @@ use Rattle.edges.specs.Edges.{encode as edge_words}
 use Rattle.routes.specs.Store.{encode as route_words}
 use Rattle.routes.specs.Desks.{Desked, edges_of, routes_of}
 use Rattle.times.specs.Words.{span_words, time_words}
-use Rattle.stores.specs.declared.score.Scored.{Scored}
-use Rattle.stores.specs.declared.score.Scored.TheVariants.{Is}
 use Rattle.stores.specs.Words.{base_words}
 use Rattle.stores.specs.Promise.{Slices, holding}
 
@@ -42,15 +42,15 @@ pub record Untimed (p : Plan) (b s e r : List ℕ) (n : ℕ) : Type 0 where
   pub jobs : n ≡ p.base.jobs
 
 -- the plan's score, and its times in place of what was there
-pub record Rated (p : Plan) (t : List ℕ) (x : Scored) (t' : List ℕ) : Type 0 where
-  pub says : x ≡ Is (score p)
+pub record Rated (p : Plan) (t : List ℕ) (x : Result Score Refusal) (t' : List ℕ) : Type 0 where
+  pub says : x ≡ Ok (score p)
   pub times : Over times_length (time_words p) t t'
 
 -- of every plan whose words these are
-pub record Rates (b s e r t : List ℕ) (n : ℕ) (x : Scored) (t' : List ℕ) : Type 0 where
+pub record Rates (b s e r t : List ℕ) (n : ℕ) (x : Result Score Refusal) (t' : List ℕ) : Type 0 where
   pub is : (p : Plan) → Untimed p b s e r n → Rated p t x t'
 
 -- the plan p is in the store, and its score is told
-pub record Filled (p : Plan) (s s' : Slices) (x : Scored) : Type 0 where
-  pub says : x ≡ Is (score p)
+pub record Filled (p : Plan) (s s' : Slices) (x : Result Score Refusal) : Type 0 where
+  pub says : x ≡ Ok (score p)
   pub leaves : s' ≡ holding p s

@@ -6,23 +6,27 @@ ghost use Rattle.rules.specs.Sizes.{base_of, is_long, base_length, edges_length,
 ghost use Rattle.rules.specs.Refusals.{first_of, load_checks};
 ghost use Rattle.rules.specs.Routes.{fresh};
 ghost use Rattle.rules.specs.Calls.{to_load};
-ghost use Rattle.refresh.specs.Loads.{loading, breaks_by, bad_after, checked_as};
+ghost use Rattle.refresh.specs.Loads.{loads, breaks_by, bad_after, checked_as};
 ghost use Rattle.refresh.specs.Fills.{Loadable, Laid, Rates, Filled};
 ghost use Rattle.stores.specs.Promise.{AnyPromise, slices};
 ghost use Rattle.stores.specs.Says.{says_scored};
 
 use edges::fixed::fixed;
 use routes::route::no_routes;
-use rules::{Plan, Refusal};
+use rules::{Plan, Refusal, Score};
 use stores::base::{write_base, write_spans};
-use stores::header::broad;
-use stores::score::{Scored, score_of};
+use stores::score::score_of;
 use times::settle::anew;
 
+// What is loaded. The fixed list is two tables: the pair i leads from the job from[i] to the job to[i].
 #[derive(Clone, Copy)]
-pub enum Checked {
-    Fine,
-    Refused(Refusal),
+pub struct Loading<'a> {
+    pub jobs: u32,
+    pub owners: u32,
+    pub durations: &'a [u64],
+    pub expected: &'a [u32],
+    pub from: &'a [u32],
+    pub to: &'a [u32],
 }
 
 // A count, or a table's length, breaks its size.
@@ -43,7 +47,7 @@ fn breaks(jobs: u32, owners: u32, durations: usize, expected: usize, from: usize
     if from != to {
         return true;
     }
-    let n = broad(jobs);
+    let n = jobs as usize;
     if durations != n {
         return true;
     }
@@ -86,59 +90,51 @@ fn bad_from(from: &[u32], n: u32) -> bool
 }
 
 // Refusals 2, 3 and 4, in this order.
-fn check(
-    jobs: u32,
-    owners: u32,
-    durations: &[u64],
-    expected: &[u32],
-    from: &[u32],
-    to: &[u32],
-) -> Checked
-    ensures { result ≡ checked_as (first_of (load_checks
-        (loading jobs owners durations.now expected.now from.now to.now))) }
+fn check(what: Loading) -> Result<(), Refusal>
+    ensures { result ≡ checked_as (first_of (load_checks (loads what.entry))) }
 {
     if breaks(
-        jobs,
-        owners,
-        durations.len(),
-        expected.len(),
-        from.len(),
-        to.len(),
+        what.jobs,
+        what.owners,
+        what.durations.len(),
+        what.expected.len(),
+        what.from.len(),
+        what.to.len(),
     ) {
-        return Checked::Refused(Refusal::BadSize);
+        return Err(Refusal::BadSize);
     }
-    if has_long(durations) {
-        return Checked::Refused(Refusal::LongDuration);
+    if has_long(what.durations) {
+        return Err(Refusal::LongDuration);
     }
-    if bad_from(from, jobs) {
-        return Checked::Refused(Refusal::BadFixed);
+    if bad_from(what.from, what.jobs) {
+        return Err(Refusal::BadFixed);
     }
-    Checked::Fine
+    Ok(())
 }
 
 // Every word but the times: only the fixed list gives edges, since every route is empty.
-fn write(
-    base: &mut [u32],
-    spans: &mut [u64],
-    edges: &mut [u16],
-    routes: &mut [u16],
-    jobs: u32,
-    owners: u32,
-    durations: &[u64],
-    expected: &[u32],
-    from: &[u32],
-    to: &[u32],
-)
-    requires { Loadable (loading jobs owners durations.now expected.now from.now to.now)
-        (length base.old) (length spans.old) (length edges.old) (length routes.old) }
-    ensures { Laid (fresh (base_of
-        (loading jobs owners durations.now expected.now from.now to.now)))
+fn write(base: &mut [u32], spans: &mut [u64], edges: &mut [u16], routes: &mut [u16], what: Loading)
+    requires { Loadable (loads what) (length base.old) (length spans.old) (length edges.old) (length routes.old) }
+    ensures { Laid (fresh (base_of (loads what.entry)))
         base.old spans.old edges.old routes.old
         base.new spans.new edges.new routes.new }
 {
-    write_base(base, jobs, owners, expected, from, to);
-    write_spans(spans, durations);
-    fixed(&mut edges[..Plan::EDGES], from, to, from.len(), jobs);
+    write_base(
+        base,
+        what.jobs,
+        what.owners,
+        what.expected,
+        what.from,
+        what.to,
+    );
+    write_spans(spans, what.durations);
+    fixed(
+        &mut edges[..Plan::EDGES],
+        what.from,
+        what.to,
+        what.from.len(),
+        what.jobs,
+    );
     no_routes(routes);
 }
 
@@ -150,7 +146,7 @@ fn first_score(
     routes: &[u16],
     times: &mut [u64],
     plan: Plan,
-) -> Scored
+) -> Result<Score, Refusal>
     requires { (base_length ≤ length base.now) × (spans_length ≤ length spans.now) × (edges_length ≤ length edges.now)
         × (routes_length ≤ length routes.now) × (times_length ≤ length times.old) × (plan.jobs ≤ most_jobs) }
     ensures { Rates base.now spans.now edges.now routes.now times.old
@@ -160,7 +156,7 @@ fn first_score(
         &edges[..Plan::EDGES],
         &spans[..Plan::SPANS],
         &mut times[..Plan::TIMES],
-        broad(plan.jobs),
+        plan.jobs as usize,
     );
     score_of(base, routes, &times[..], plan)
 }
@@ -172,27 +168,19 @@ fn fill(
     edges: &mut [u16],
     routes: &mut [u16],
     times: &mut [u64],
-    jobs: u32,
-    owners: u32,
-    durations: &[u64],
-    expected: &[u32],
-    from: &[u32],
-    to: &[u32],
-) -> Scored
-    requires { Loadable (loading jobs owners durations.now expected.now from.now to.now)
-        (length base.old) (length spans.old) (length edges.old) (length routes.old) × (times_length ≤ length times.old) }
-    ensures { Filled (fresh (base_of
-        (loading jobs owners durations.now expected.now from.now to.now)))
+    what: Loading,
+) -> Result<Score, Refusal>
+    requires { Loadable (loads what) (length base.old) (length spans.old) (length edges.old) (length routes.old)
+        × (times_length ≤ length times.old) }
+    ensures { Filled (fresh (base_of (loads what.entry)))
         (slices base.old spans.old edges.old routes.old times.old)
         (slices base.new spans.new edges.new routes.new times.new) result }
 {
-    write(
-        base, spans, edges, routes, jobs, owners, durations, expected, from, to,
-    );
+    write(base, spans, edges, routes, what);
     let plan = Plan {
-        jobs: jobs,
-        owners: owners,
-        fixed: from.len() as u32,
+        jobs: what.jobs,
+        owners: what.owners,
+        fixed: what.from.len() as u32,
     };
     first_score(&base[..], &spans[..], &edges[..], &routes[..], times, plan)
 }
@@ -203,15 +191,9 @@ pub fn load(
     edges: &mut [u16],
     routes: &mut [u16],
     times: &mut [u64],
-    jobs: u32,
-    owners: u32,
-    durations: &[u64],
-    expected: &[u32],
-    from: &[u32],
-    to: &[u32],
-) -> Scored
-    ensures { AnyPromise (to_load
-        (loading jobs owners durations.now expected.now from.now to.now))
+    what: Loading,
+) -> Result<Score, Refusal>
+    ensures { AnyPromise (to_load (loads what.entry))
         (slices base.old spans.old edges.old routes.old times.old)
         (slices base.new spans.new edges.new routes.new times.new)
         (says_scored result) }
@@ -223,12 +205,8 @@ pub fn load(
         routes.len(),
         times.len(),
     ) {
-        return Scored::Refused(Refusal::ShortStore);
+        return Err(Refusal::ShortStore);
     }
-    match check(jobs, owners, durations, expected, from, to) {
-        Checked::Refused(r) => Scored::Refused(r),
-        Checked::Fine => fill(
-            base, spans, edges, routes, times, jobs, owners, durations, expected, from, to,
-        ),
-    }
+    check(what)?;
+    fill(base, spans, edges, routes, times, what)
 }

@@ -9,24 +9,19 @@ use puts::put::Outcome;
 use routes::ask::{Ask, asked};
 use rules::{Owner, Plan, Refusal, Report, Score};
 use stores::base::expected;
-use stores::header::{Header, broad, opened};
-use stores::score::{Scored, score_of};
+use stores::header::opened;
+use stores::score::score_of;
 use times::settle::refresh;
 
+// The score after minus the score before, part by part, and what was done to the starts.
 #[derive(Clone, Copy)]
-enum Followed {
-    Is(Report),
-    Refused(Refusal),
-}
-
-#[derive(Clone, Copy)]
-pub enum Changed {
-    By(Score, Report),
-    Refused(Refusal),
+pub struct Change {
+    pub score: Score,
+    pub report: Report,
 }
 
 // The routes and the edges change, then the times follow.
-fn change(
+fn follow(
     base: &[u32],
     spans: &[u64],
     edges: &mut [u16],
@@ -35,7 +30,7 @@ fn change(
     plan: Plan,
     owner: Owner,
     entries: &[u32],
-) -> Followed
+) -> Result<Report, Refusal>
     requires sizes { (base_length ≤ length base.now) × (length spans.now ≡ spans_length) × (length edges.old ≡ edges_length) × (length routes.old ≡ routes_length)
         × (length times.old ≡ times_length) }
     requires low { (plan.jobs ≤ most_jobs) × (owner.0 < most_owners) × (length entries.now ≤ most_entries) }
@@ -57,9 +52,9 @@ fn change(
         &mut went,
         &mut gone,
     ) {
-        Outcome::Bad => Followed::Refused(Refusal::BadStore),
-        Outcome::NoRoom => Followed::Refused(Refusal::NoRoom),
-        Outcome::Done(c, w, g) => Followed::Is(refresh(
+        Outcome::Bad => Err(Refusal::BadStore),
+        Outcome::NoRoom => Err(Refusal::NoRoom),
+        Outcome::Done(c, w, g) => Ok(refresh(
             edges,
             spans,
             times,
@@ -69,7 +64,7 @@ fn change(
             w,
             &gone,
             g,
-            broad(plan.jobs),
+            plan.jobs as usize,
         )),
     }
 }
@@ -84,7 +79,7 @@ fn rescore(
     plan: Plan,
     owner: Owner,
     entries: &[u32],
-) -> Changed
+) -> Result<Change, Refusal>
     requires sizes { (base_length ≤ length base.now) × (length spans.now ≡ spans_length) × (length edges.old ≡ edges_length) × (length routes.old ≡ routes_length)
         × (length times.old ≡ times_length) }
     requires low { (plan.jobs ≤ most_jobs) × (owner.0 < most_owners) × (length entries.now ≤ most_entries) }
@@ -92,18 +87,13 @@ fn rescore(
         (slices base.now spans.now edges.new routes.new times.new)
         plan.jobs owner.0 entries.now result }
 {
-    match score_of(base, routes, times, plan) {
-        Scored::Refused(r) => Changed::Refused(r),
-        Scored::Is(before) => match change(
-            base, spans, edges, routes, times, plan, owner, entries,
-        ) {
-            Followed::Refused(r) => Changed::Refused(r),
-            Followed::Is(report) => match score_of(base, routes, times, plan) {
-                Scored::Refused(r) => Changed::Refused(r),
-                Scored::Is(after) => Changed::By(after.minus(before), report),
-            },
-        },
-    }
+    let before = score_of(base, routes, times, plan)?;
+    let report = follow(base, spans, edges, routes, times, plan, owner, entries)?;
+    let after = score_of(base, routes, times, plan)?;
+    Ok(Change {
+        score: after.minus(before),
+        report: report,
+    })
 }
 
 pub fn put(
@@ -114,27 +104,25 @@ pub fn put(
     times: &mut [u64],
     owner: Owner,
     entries: &[u32],
-) -> Changed
+) -> Result<Change, Refusal>
     ensures { Promise (to_put owner.0 entries.now)
         (slices base.now spans.now edges.old routes.old times.old)
         (slices base.now spans.now edges.new routes.new times.new)
         [] [] (says_changed result) }
 {
-    match opened(base, spans.len(), edges.len(), routes.len(), times.len()) {
-        Header::Refused(r) => Changed::Refused(r),
-        Header::Is(plan) => match asked(plan, owner, entries.len()) {
-            Ask::NoSuchOwner => Changed::Refused(Refusal::NoSuchOwner),
-            Ask::TooManyEntries => Changed::Refused(Refusal::TooManyEntries),
-            Ask::Fine => rescore(
-                base,
-                &spans[..Plan::SPANS],
-                &mut edges[..Plan::EDGES],
-                &mut routes[..Plan::ROUTES],
-                &mut times[..Plan::TIMES],
-                plan,
-                owner,
-                entries,
-            ),
-        },
+    let plan = opened(base, spans.len(), edges.len(), routes.len(), times.len())?;
+    match asked(plan, owner, entries.len()) {
+        Ask::NoSuchOwner => Err(Refusal::NoSuchOwner),
+        Ask::TooManyEntries => Err(Refusal::TooManyEntries),
+        Ask::Fine => rescore(
+            base,
+            &spans[..Plan::SPANS],
+            &mut edges[..Plan::EDGES],
+            &mut routes[..Plan::ROUTES],
+            &mut times[..Plan::TIMES],
+            plan,
+            owner,
+            entries,
+        ),
     }
 }

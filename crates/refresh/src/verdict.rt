@@ -3,20 +3,21 @@ ghost use Rattle.std.specs.Prelude.{◌≡◌, ◌≤◌, length, take};
 ghost use Rattle.std.proofs.lemmas.List.Edits.{sets};
 ghost use Rattle.rules.specs.Calls.{to_verdict};
 ghost use Rattle.rules.specs.Sizes.{edges_length, most_jobs};
-ghost use Rattle.stores.specs.Promise.{Promise, slices};
+ghost use Rattle.stores.specs.Held.{held};
+ghost use Rattle.stores.specs.Promise.{Promise};
 ghost use Rattle.refresh.specs.Shows.{Closing, Shows, says_verdict};
 
 use rules::{Plan, Refusal};
 use shown::cycles::cycle;
 use shown::lowests::lowest_up;
-use stores::header::{Header, broad, opened};
+use stores::store::Store;
 use words::widen;
 
+// How many jobs are in front of the answer buffer, and what they are.
 #[derive(Clone, Copy)]
 pub enum Judged {
     LineUp(usize),
     Cycle(usize),
-    Refused(Refusal),
 }
 
 // There is no line-up: the cycle.
@@ -43,27 +44,15 @@ fn shown(edges: &[u16], n: usize, out: &mut [u32]) -> Judged
     closed(edges, n, out)
 }
 
-pub fn verdict(
-    base: &[u32],
-    spans: &[u64],
-    edges: &[u16],
-    routes: &[u16],
-    times: &[u64],
-    out: &mut [u32],
-) -> Judged
+pub fn verdict(store: Store, out: &mut [u32]) -> Result<Judged, Refusal>
     ensures { Promise (to_verdict (length out.old))
-        (slices base.now spans.now edges.now routes.now times.now)
-        (slices base.now spans.now edges.now routes.now times.now)
+        (held store.entry) (held store.entry)
         out.old out.new (says_verdict out.new result) }
 {
-    match opened(base, spans.len(), edges.len(), routes.len(), times.len()) {
-        Header::Refused(r) => Judged::Refused(r),
-        Header::Is(plan) => {
-            let n = broad(plan.jobs);
-            if out.len() < n {
-                return Judged::Refused(Refusal::ShortAnswer);
-            }
-            shown(&edges[..Plan::EDGES], n, out)
-        }
+    let plan = store.plan()?;
+    let n = plan.jobs as usize;
+    if out.len() < n {
+        return Err(Refusal::ShortAnswer);
     }
+    Ok(shown(&store.edges[..Plan::EDGES], n, out))
 }

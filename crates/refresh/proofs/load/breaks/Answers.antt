@@ -1,7 +1,4 @@
-use mathlib.Core.Path.{ap, sym, ◌∙◌}
-use mathlib.Core.Bool.{not}
-use Prim.Native.Nat.{ℕ}
-use lib.Dec.{eqb}
+use mathlib.Core.Path.{sym, ◌∙◌}
 use Rattle.refresh.proofs.Checking.{breaks_fixed, breaks_counts, breaks_pairs, breaks_durations, breaks_none, breaks_expected}
 use Rattle.refresh.proofs.load.breaks.Goals as goal
 
@@ -32,9 +29,8 @@ returns-then-durations-n c =
     let the_if2 = c.if-not-fits in
     let the_if3 = c.if-from-to in
     let the_if4 = c.if-durations-n in
-    let the_broad = c.broad-n in
     let fits = sym the_fits2.ensures ∙ the_if2.false in
-    breaks_durations _ _ _ _ _ _ fits the_if3.false (λ q. the_if4.true (q ∙ sym the_broad.ensures))
+    breaks_durations _ _ _ _ _ _ fits the_if3.false the_if4.true
 
 pub returns-then-expected-eq0 : goal.returns-then-expected-eq0
 returns-then-expected-eq0 c =
@@ -42,20 +38,16 @@ returns-then-expected-eq0 c =
     let the_if2 = c.if-not-fits in
     let the_if3 = c.if-from-to in
     let the_if4 = c.if-durations-n in
-    let the_broad = c.broad-n in
     let the_if5 = c.if-expected-eq0 in
     let fits = sym the_fits2.ensures ∙ the_if2.false in
-    breaks_none _ _ _ _ _ _ fits the_if3.false (the_if4.false ∙ the_broad.ensures) the_if5.true
+    breaks_none _ _ _ _ _ _ fits the_if3.false the_if4.false the_if5.true
 
 pub returns : goal.returns
 returns c =
-    let the_broad = c.broad-n in
     let the_fits2 = c.fits in
     let the_if2 = c.if-not-fits in
     let the_if3 = c.if-from-to in
     let the_if4 = c.if-durations-n in
     let the_if5 = c.if-expected-eq0 in
-    let x = c.args in
     let fits = sym the_fits2.ensures ∙ the_if2.false in
-    ap (λ (k : ℕ). not (eqb x.expected k)) the_broad.ensures
-    ∙ breaks_expected _ _ _ _ _ _ fits the_if3.false (the_if4.false ∙ the_broad.ensures) the_if5.false
+    breaks_expected _ _ _ _ _ _ fits the_if3.false the_if4.false the_if5.false

@@ -1,5 +1,4 @@
-use native.Mathlib.Omega.{arith}
-use mathlib.Core.Path.{sym, ◌∙◌}
+use mathlib.Core.Path.{refl, sym, ◌∙◌}
 use lib.Seq.{length-take-le}
 use Rattle.rules.specs.Sizes.{edges_length, spans_length, times_length}
 use Rattle.refresh.proofs.Accepting.{rates_is}
@@ -19,12 +18,10 @@ slice_bounds-anew-end-4 c =
 
 pub anew-requires : goal.anew-requires
 anew-requires c =
-    let the_broad = c.broad in
-    let p = c.requires in (length-take-le edges_length c.args.edges.now p.2, length-take-le spans_length c.args.spans.now p.1, length-take-le times_length c.args.times.now p.4, omega (arith, the_broad.ensures, p.5))
+    let p = c.requires in (length-take-le edges_length c.args.edges.now p.2, length-take-le spans_length c.args.spans.now p.1, length-take-le times_length c.args.times.now p.4, p.5)
 
 pub returns : goal.returns
 returns c =
-    let the_broad = c.broad in
     let the_anew = c.anew in
     let the_score_of = c.score_of in
-    rates_is the_broad.ensures the_anew.ensures (the_anew.auto.times ∙ length-take-le times_length c.args.times.now c.requires.4) the_score_of.ensures
+    rates_is refl the_anew.ensures (the_anew.auto.times ∙ length-take-le times_length c.args.times.now c.requires.4) the_score_of.ensures

@@ -1,15 +1,13 @@
-use mathlib.Core.Path.{◌∙◌}
+use mathlib.Core.Path.{refl, ◌∙◌}
 use native.Mathlib.Omega.{arith}
 use Rattle.refresh.proofs.Putting.{follow_bad, follow_full, follow_done}
-use Rattle.refresh.proofs.put.change.Goals as goal
+use Rattle.refresh.proofs.put.follow.Goals as goal
 
 pub refresh-requires : goal.refresh-requires
 refresh-requires c =
-    let the_broad = c.broad in
     let the_put = c.put in
     let p = c.requires.sizes in
     let few = c.requires.low.0 in
-    let jobs = the_broad.ensures in
     let k = the_put.auto in
     let within = rw c.in-Done.is at the_put.ensures.within in
     let came = k.came in
@@ -35,5 +33,4 @@ returns-in-Done c =
     let the_put = c.put in
     let the_expected = c.expected in
     let the_refresh = c.refresh in
-    let the_broad = c.broad in
-    follow_done the_put.ensures the_expected.ensures c.in-Done.is the_refresh.ensures the_broad.ensures
+    follow_done the_put.ensures the_expected.ensures c.in-Done.is the_refresh.ensures refl
