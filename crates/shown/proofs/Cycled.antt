@@ -1,7 +1,6 @@
 -- Laws of the functions that find the shown cycle from distances. Assumes nothing.
 use Rattle.std.proofs.Common.{◌≡◌, ℕ, zero, suc, ◌+◌, ◌-◌, ◌<◌, ◌≤◌, min, true, List, [], ◌∷◌, ◌++◌, length, get_or, take, drop, set, replicate, sym, refl, ap, ◌∙◌, ⊎_elim, append_assoc, append-nil, not-suc-le-zero, add-one, arith, take-suc-set, drop-set-lt, rules, eq-eqb, ne_eqb}
 use mathlib.Core.Option.{none}
-use lib.ListN.{get_or-eq_default}
 use Rattle.rules.specs.Lists.{first, memb}
 use Rattle.rules.specs.Shown.{closes, trail}
 use Rattle.rules.specs.Sizes.{most_jobs}
@@ -17,12 +16,6 @@ use Rattle.shown.specs.Distances.{Measures}
 use Rattle.shown.specs.Cycles.{Traces, Closed, Closes, Looped, Cycles}
 
 -- ── the distance of one job ──
-
-pub far_out : (d : List ℕ) (k w : ℕ) → k ≡ w → length d ≤ k → 0 ≡ at d w
-far_out d k w e h = sym (get_or-eq_default d 0 (omega arith))
-
-pub far_in : (d : List ℕ) (k w : ℕ) → k ≡ w → get_or d k 0 ≡ at d w
-far_in d k w e = ap (at d) e
 
 module _ (x d b : ℕ) (e : d ≡ x) where
   pub nearer_none : d ≡ 0 → b ≡ nearer x b
@@ -47,11 +40,8 @@ module _ (x d y w low : ℕ) (e : d ≡ x) where
   lower_other f = rw (ne_eqb x y (λ q. f (e ∙ q)))
 
   module _ (f : d ≡ y) where
-    pub lower_new : w < low → w ≡ lower_of x y w low
-    lower_new h = rw (eq-eqb x y (sym e ∙ f)) (omega arith)
-
-    pub lower_old : low ≤ w → low ≡ lower_of x y w low
-    lower_old h = rw (eq-eqb x y (sym e ∙ f)) (omega arith)
+    pub lower_new : (r : ℕ) → r ≡ min low w → r ≡ lower_of x y w low
+    lower_new r h = rw (eq-eqb x y (sym e ∙ f)) (omega arith)
 
 -- ── a scan of a row ──
 
@@ -198,4 +188,4 @@ module _ {e : List ℕ} {n v k : ℕ} {o₀ o o' : List ℕ} (K : Closes e v n o
       here m H b = rw none_found at (K.is m H b)
 
 -- what these functions are proved by
-pub ruleset cycling = (rules, far_out, far_in, nearer_none, nearer_first, nearer_new, nearer_old, lower_other, lower_new, lower_old, sweeping_none, sweeping_next, sweeping_done, tracing_none, tracing_next, tracing_done, closes_far, closes_is, circling_none, circling_some, circling_next, circling_done)
+pub ruleset cycling = (rules, nearer_none, nearer_first, nearer_new, nearer_old, lower_other, lower_new, sweeping_none, sweeping_next, sweeping_done, tracing_none, tracing_next, tracing_done, closes_far, closes_is, circling_none, circling_some, circling_next, circling_done)

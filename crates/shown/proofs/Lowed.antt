@@ -1,6 +1,5 @@
 -- Laws of the lowest line-up's functions: the cursor, and the lowest job of degree 0. Assumes nothing.
-use Rattle.std.proofs.Common.{◌≡◌, ℕ, suc, ◌+◌, ◌-◌, ◌<◌, ◌≤◌, true, false, ◌⊎◌, List, [], ◌∷◌, ◌++◌, length, get_or, take, drop, set, sym, refl, ap, ◌∙◌, inl, inr, ⊎_elim, append-nil, not-suc-le-zero, add-one, arith, length-take-le, get_or-set_other, get_or-set_same, take-suc-set, take_at, drop_at, rules}
-use lib.Seq.{slice, sets, sets-eq}
+use Rattle.std.proofs.Common.{◌≡◌, ℕ, suc, ◌+◌, ◌-◌, ◌<◌, ◌≤◌, min, true, false, ◌⊎◌, List, [], ◌∷◌, ◌++◌, length, get_or, take, drop, set, sym, refl, ap, ◌∙◌, inl, inr, ⊎_elim, append-nil, not-suc-le-zero, add-one, arith, length-take-le, get_or-set_other, get_or-set_same, take-suc-set, take_at, drop_at, rules}
 use Rattle.rules.specs.Sizes.{most_jobs}
 use Rattle.rules.proofs.Ranges.{below, same}
 use Rattle.edges.specs.Edges.{Model, Holds}
@@ -57,11 +56,8 @@ module _ (w k low : ℕ) (d : List ℕ) (ek : k ≡ w) (ld : length d ≡ most_j
     pub lessen_more : 1 < get_or d k 0 → Lessens (w ∷ []) low d low (set d k x)
     lessen_more z = told low (omega arith) (inr (omega arith))
 
-    pub lessen_lower : k < low → Lessens (w ∷ []) low d k (set d k x)
-    lessen_lower z = told k (omega arith) (inl (omega arith))
-
-    pub lessen_above : low ≤ k → Lessens (w ∷ []) low d low (set d k x)
-    lessen_above z = told low (omega arith) (inl (omega arith))
+    pub lessen_lower : (low' : ℕ) → low' ≡ min low k → Lessens (w ∷ []) low d low' (set d k x)
+    lessen_lower low' e = told low' (omega arith) (inl (omega arith))
 
 -- ── the jobs of a row in turn ──
 
@@ -109,8 +105,8 @@ module _ {d : List ℕ} {low p : ℕ} (S : Seeking d low p) where
   pub seeking_found : (n : ℕ) → get_or d p 0 ≡ 0 → Readies d low n p
   seeking_found n z = record { is = λ h. z; clear = S.clear }
 
-  pub seeking_done : {n : ℕ} → n ≤ p → Readies d low n p
-  seeking_done h = record { is = λ k. absurd (let f : ⊥ = omega arith in f); clear = S.clear }
+  pub seeking_done : {n : ℕ} → n ≤ p → Readies d low n n
+  seeking_done h = record { is = λ k. absurd (let f : ⊥ = omega arith in f); clear = λ C. record { none = λ v k. (S.clear C).none v (omega arith) } }
 
 -- ── job after job ──
 
@@ -182,24 +178,18 @@ module _ {e : List ℕ} {n k low p : ℕ} {o d : List ℕ} (R : Readies d low n 
             }
 
 -- the first n places are written
-pub drawing_done : {e : List ℕ} {n k low : ℕ} {o d : List ℕ} → Drawing e n k low o d → {o₀ o' : List ℕ} → o' ≡ sets o₀ 0 (slice 0 (0 + n) o)
-    → k ≤ n → n ≤ k → n ≤ most_jobs → length o ≡ most_jobs → length o₀ ≡ most_jobs → Lowest e n o₀ true o'
-drawing_done {e} {n} {k} {low} {o} {d} D {o₀} {o'} w hk hd hn lo l₀ = record {
-  beyond = rw split (drop_at (take n o) (drop n o₀) n size);
+pub drawing_done : {e : List ℕ} {n k low : ℕ} {o d : List ℕ} → Drawing e n k low o d → {o₀ p : List ℕ} → p ≡ take n o
+    → k ≤ n → n ≤ k → n ≤ most_jobs → length o ≡ most_jobs → Lowest e n o₀ true (p ++ drop n o₀)
+drawing_done {e} {n} {k} {low} {o} {d} D {o₀} {p} w hk hd hn lo = record {
+  beyond = rw w (drop_at (take n o) (drop n o₀) n size);
   is = λ m H b.
       let q : k ≡ n = omega arith in
       let z : n - n ≡ 0 = omega arith in
-      rw (split, take_at (take n o) (drop n o₀) n size) (lowest.onward_done n (live m) (take n o) (rw (q, z) at (D.keeps m H b).onward));
+      rw (w, take_at (take n o) (drop n o₀) n size) (lowest.onward_done n (live m) (take n o) (rw (q, z) at (D.keeps m H b).onward));
 }
   where
     size : length (take n o) ≡ n
     size = length-take-le n o (omega arith)
 
-    from : 0 + n ≡ n
-    from = omega arith
-
-    split : o' ≡ take n o ++ drop n o₀
-    split = rw from at w ∙ sets-eq (take n o) o₀ 0 (omega (arith, size)) ∙ rw (size, from)
-
 -- what these functions are proved by
-pub ruleset lowering = (rules, lessen_out, lessen_zero, lessen_more, lessen_lower, lessen_above, lessening_none, lessening_next, lessening_done, seeking_none, seeking_next, seeking_found, seeking_done, drawing_none, drawing_stuck, drawing_next, drawing_done)
+pub ruleset lowering = (rules, lessen_out, lessen_zero, lessen_more, lessen_lower, lessening_none, lessening_next, lessening_done, seeking_none, seeking_next, seeking_found, seeking_done, drawing_none, drawing_stuck, drawing_next, drawing_done)

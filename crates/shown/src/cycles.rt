@@ -1,4 +1,6 @@
 // The shown cycle: distances back to a job, then the lowest successor that is one nearer.
+#![tactic(auto, using(crate::proofs::Cycled::cycling))]
+
 ghost use Rattle.std.specs.Prelude.{◌≡◌, ◌<◌, ◌≤◌, length};
 ghost use Rattle.rules.specs.Sizes.{most_jobs, edges_length};
 ghost use Rattle.graphs.specs.Graph.{at};
@@ -8,17 +10,12 @@ ghost use Rattle.shown.specs.Cycles.{Traces, Closes, Cycles};
 use crate::distances::measure;
 use edges::lists::successors;
 use rules::Plan;
-use words::wide;
 
 // The distance of w, 0 of a number that is no job.
 fn far(dist: &[u16], w: u16) -> u16
     ensures { result ≡ at dist.now w }
 {
-    let k = wide(w);
-    if dist.len() <= k {
-        return 0;
-    }
-    dist[k]
+    dist.get(usize::from(w)).copied().unwrap_or(0)
 }
 
 // The nearer of what was found and w's distance; 0 is none.
@@ -43,10 +40,8 @@ fn nearest(row: &[u16], dist: &[u16]) -> u16
     ensures { result ≡ nearest_of (at dist.now) 0 row.now }
 {
     let mut best: u16 = 0;
-    let mut k: usize = 0;
-    while k < row.len() {
-        best = nearer_of(dist, row[k], best);
-        k = k + 1;
+    for &w in row {
+        best = nearer_of(dist, w, best);
     }
     best
 }
@@ -55,13 +50,7 @@ fn nearest(row: &[u16], dist: &[u16]) -> u16
 fn lower_of(dist: &[u16], w: u16, d: u16, low: u16) -> u16
     ensures { result ≡ lower_of (at dist.now w) d w low }
 {
-    let y = far(dist, w);
-    if y == d {
-        if w < low {
-            return w;
-        }
-    }
-    low
+    if far(dist, w) == d { low.min(w) } else { low }
 }
 
 // The lowest job of a row at distance d, or n.
@@ -69,10 +58,8 @@ fn lowest(row: &[u16], dist: &[u16], d: u16, n: u16) -> u16
     ensures { result ≡ lowest_of (at dist.now) d n row.now }
 {
     let mut low = n;
-    let mut k: usize = 0;
-    while k < row.len() {
-        low = lower_of(dist, row[k], d, low);
-        k = k + 1;
+    for &w in row {
+        low = lower_of(dist, w, d, low);
     }
     low
 }
@@ -83,11 +70,14 @@ fn trace(e: &[u16], v: usize, n: usize, dist: &[u16], d: usize, out: &mut [u16])
     ensures { Traces e.now v n dist.now d out.old out.new }
 {
     let mut u = v as u16;
-    let mut k: usize = 0;
-    while k < d {
+    for k in 0..d {
         out[k] = u;
-        u = lowest(successors(e, wide(u)), dist, (d - k) as u16, n as u16);
-        k = k + 1;
+        u = lowest(
+            successors(e, usize::from(u)),
+            dist,
+            (d - k) as u16,
+            n as u16,
+        );
     }
 }
 
@@ -98,7 +88,7 @@ fn cycle_at(e: &[u16], v: usize, n: usize, out: &mut [u16]) -> usize
 {
     let mut dist = [0u16; Plan::JOBS];
     measure(e, v, n, &mut dist);
-    let d = wide(nearest(successors(e, v), &dist));
+    let d = usize::from(nearest(successors(e, v), &dist));
     if n < d {
         return 0;
     }
@@ -111,13 +101,11 @@ pub fn cycle(e: &[u16], n: usize, out: &mut [u16]) -> usize
     requires { (length e.now ≡ edges_length) × (n ≤ most_jobs) × (length out.old ≡ most_jobs) }
     ensures { Cycles e.now n out.old result out.new }
 {
-    let mut v: usize = 0;
-    while v < n {
+    for v in 0..n {
         let k = cycle_at(e, v, n, out);
         if 0 < k {
             return k;
         }
-        v = v + 1;
     }
     0
 }

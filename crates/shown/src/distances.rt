@@ -1,18 +1,19 @@
 // Distances back to a job: wave after wave, first in first out, over the predecessors.
+#![tactic(auto, using(crate::proofs::Distanced::distancing))]
+
 ghost use Rattle.std.specs.Prelude.{◌≡◌, ◌<◌, ◌≤◌, [], ◌∷◌, length};
 ghost use Rattle.rules.specs.Sizes.{most_jobs, edges_length};
 ghost use Rattle.shown.specs.Distances.{Meets, Measures};
 
 use edges::lists::predecessors;
 use rules::Plan;
-use words::wide;
 
 // Job w, if it is not met yet, is at distance d and joins the queue. A number that is no job is passed over.
 pub fn meet(queue: &mut [u16], dist: &mut [u16], w: u16, d: u16, n: usize, tail: usize) -> usize
     requires { (length queue.old ≡ most_jobs) × (length dist.old ≡ most_jobs) × (n ≤ most_jobs) × (tail ≤ most_jobs) }
     ensures { Meets (w ∷ []) d n tail queue.old dist.old result queue.new dist.new }
 {
-    let k = wide(w);
+    let k = usize::from(w);
     if n <= k {
         return tail;
     }
@@ -33,10 +34,8 @@ fn meets(row: &[u16], queue: &mut [u16], dist: &mut [u16], d: u16, n: usize, sta
     ensures { Meets row.now d n start queue.old dist.old result queue.new dist.new }
 {
     let mut tail = start;
-    let mut k: usize = 0;
-    while k < row.len() {
-        tail = meet(queue, dist, row[k], d, n, tail);
-        k = k + 1;
+    for &w in row {
+        tail = meet(queue, dist, w, d, n, tail);
     }
     tail
 }
@@ -49,15 +48,16 @@ pub(crate) fn measure(e: &[u16], v: usize, n: usize, dist: &mut [u16])
     let mut queue = [0u16; Plan::JOBS];
     queue[0] = v as u16;
     dist[v] = 1;
-    let mut tail: usize = 1;
-    let mut head: usize = 0;
+    let mut tail = 1;
+    let mut head = 0;
+    // A `while`: the queue grows while it is passed, so no range or row stands still to go over.
     while head < tail {
-        let u = wide(queue[head]);
+        let u = usize::from(queue[head]);
         if n <= u {
             return;
         }
-        let d = std::num::wrapping_add_u16(dist[u], 1);
+        let d = dist[u].wrapping_add(1);
         tail = meets(predecessors(e, u), &mut queue, dist, d, n, tail);
-        head = head + 1;
+        head += 1;
     }
 }

@@ -1,10 +1,7 @@
-use Rattle.std.proofs.Common.{◌≡◌, ◌-◌, ◌≤◌, length}
+use Rattle.std.proofs.Common.{◌≡◌, length}
 use Rattle.rules.specs.Sizes.{most_jobs}
 use Rattle.shown.proofs.Cycled.{Tracing}
 use Rattle.shown.proofs.cycles.trace.Given as goal
 
 abbrev pub invariant-loop-k : goal.invariant-loop-k
-invariant-loop-k l = (length l.out ≡ most_jobs) × (l.k ≤ l.d) × Tracing l.e l.v l.n l.dist l.d l.initial.out l.u l.k l.out
-
-abbrev pub decreases-loop-k : goal.decreases-loop-k
-decreases-loop-k l = l.d - l.k
+invariant-loop-k l = (length l.out ≡ most_jobs) × Tracing l.e l.v l.n l.dist l.d l.initial.out l.u l.k l.out
