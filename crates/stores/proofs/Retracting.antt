@@ -16,8 +16,7 @@ use Rattle.rules.specs.Sizes.{is_short, base_length, edges_length, routes_length
 use Rattle.rules.specs.Routes.{Plan, live, wait}
 use Rattle.rules.specs.Scores.{no_change}
 use Rattle.rules.specs.Calls.{refused, scored, to_retract, accepted}
-use Rattle.routes.specs.declared.wait.Done.{Done}
-use Rattle.routes.specs.declared.wait.Done.TheVariants.{Fine, Bad}
+use Rattle.rules.specs.declared.Senseless.{Senseless}
 use Rattle.routes.specs.Promises.{Retracted}
 use Rattle.routes.specs.Desks.{Desked}
 use Rattle.routes.proofs.Waits.{retracts}
@@ -51,7 +50,7 @@ wait_live o p = by_mark (memb o p.desk.waiting)
 wait_times : (o : ℕ) (p : Plan) → time_words (wait o p) ≡ time_words p
 wait_times o p = same_words (wait o p) p (wait_base o p) (wait_live o p)
 
-unlike : Bad ≡ Fine → ⊥
+unlike : {z : Senseless} → ◌≡◌ {A = Result (Unit {0}) Senseless} (Err z) (Ok tt) → ⊥
 unlike e = let z : ◌≡◌ {A = ℕ} 0 1 = cc in omega arith
 
 module _ (o : ℕ) (s : Slices) {h : Result Counts Refusal} (opens : h ≡ open_of (lent_of s) s.base) where
@@ -66,14 +65,14 @@ module _ (o : ℕ) (s : Slices) {h : Result Counts Refusal} (opens : h ≡ open_
         (refusal_long (some p) (to_retract o) s f ∙ rw (le-leb p.base.owners o (rw q at k))))
         (heeds_first (to_retract o) s opens [] (rw (is, le-leb plan.owners o k)))
 
-    module _ (e : t ≡ true) {r' : List ℕ} {d : Done} (R : Retracted (take routes_length s.routes) o r' d) where
+    module _ (e : t ≡ true) {r' : List ℕ} {d : Result (Unit {0}) Senseless} (R : Retracted (take routes_length s.routes) o r' d) where
       k : o < plan.owners
       k = ltb-true o plan.owners (sym has ∙ e)
 
       abbrev left : Slices
       left = slices s.base s.spans s.edges (r' ++ drop routes_length s.routes) s.times
 
-      waits : (p : Plan) → Held s p → plan ≡ counts_of p.base → (d ≡ Fine) × Desked r' (take edges_length s.edges) (wait o p)
+      waits : (p : Plan) → Held s p → plan ≡ counts_of p.base → (d ≡ Ok tt) × Desked r' (take edges_length s.edges) (wait o p)
       waits p H q = retracts R H.desk (rw q at k)
 
       written : (p : Plan) → Held s p → Desked r' (take edges_length s.edges) (wait o p) → left ≡ holding (wait o p) s
@@ -91,11 +90,11 @@ module _ (o : ℕ) (s : Slices) {h : Result Counts Refusal} (opens : h ≡ open_
           (refusal_long (some p) (to_retract o) s f ∙ rw (lt-leb p.base.owners o (rw q at k))) refl refl refl
           (written p H (waits p H q).1)
 
-      pub retract_waits : d ≡ Fine → Promise (to_retract o) s left [] [] (scored no_change)
+      pub retract_waits : d ≡ Ok tt → Promise (to_retract o) s left [] [] (scored no_change)
       retract_waits f = opened_kept (to_retract o) s opens left [] [] (scored no_change) is some_waits
           (heeds_done (to_retract o) s opens (rw (is, lt-leb plan.owners o k)) (λ k f. let z : ◌≡◌ {A = ℕ} 0 1 = cc in omega arith))
 
-      pub retract_bad : d ≡ Bad → Promise (to_retract o) s left [] [] (refused BadStore)
+      pub retract_bad : {z : Senseless} → d ≡ Err z → Promise (to_retract o) s left [] [] (refused BadStore)
       retract_bad f = opened_kept (to_retract o) s opens left [] [] (refused BadStore) is
           (λ g p H q. absurd (unlike (sym f ∙ (waits p H q).0)))
           (heeds_bad (to_retract o) s opens (rw (is, lt-leb plan.owners o k)) refl)

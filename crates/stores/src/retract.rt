@@ -5,7 +5,6 @@ ghost use Rattle.stores.specs.Promise.{Promise, slices};
 ghost use Rattle.stores.specs.Says.{says_ended};
 
 use crate::header::opened;
-use routes::wait::Done;
 use rules::{Owner, Plan, Refusal};
 
 pub fn retract(
@@ -25,8 +24,6 @@ pub fn retract(
     if !plan.has_owner(owner) {
         return Err(Refusal::NoSuchOwner);
     }
-    match routes::wait::retract(&mut routes[..Plan::ROUTES], owner) {
-        Done::Bad => Err(Refusal::BadStore),
-        Done::Fine => Ok(()),
-    }
+    routes::wait::retract(&mut routes[..Plan::ROUTES], owner)?;
+    Ok(())
 }

@@ -14,10 +14,10 @@ pub returns-then-not-has_owner : goal.returns-then-not-has_owner
 returns-then-not-has_owner c =
     retract_nobody _ _ c.in_ok-plan.ensures.says refl c.has_owner.ensures c.if-not-has_owner.true
 
-pub returns-in-Bad : goal.returns-in-Bad
-returns-in-Bad c =
-    retract_bad _ _ c.in_ok-plan.ensures.says refl c.has_owner.ensures c.if-not-has_owner.false c.retract.ensures c.in-Bad.is
+pub returns-in_err-retract : goal.returns-in_err-retract
+returns-in_err-retract c =
+    let p = err_from_is_err_and c.from_residual-in_err-retract.result c.from_residual-in_err-retract.ensures.1 in
+    rw (p.1, p.2) (retract_bad _ _ c.in_ok-plan.ensures.says refl c.has_owner.ensures c.if-not-has_owner.false c.in_err-retract.ensures refl)
 
-pub returns-in-Fine : goal.returns-in-Fine
-returns-in-Fine c =
-    retract_waits _ _ c.in_ok-plan.ensures.says refl c.has_owner.ensures c.if-not-has_owner.false c.retract.ensures c.in-Fine.is
+pub returns : goal.returns
+returns c = retract_waits _ _ c.in_ok-plan.ensures.says refl c.has_owner.ensures c.if-not-has_owner.false c.in_ok-retract.ensures refl
