@@ -1,5 +1,5 @@
 -- The records are written one after the other, and the public call's promise is kept. Assumes nothing.
-use Rattle.std.proofs.Common.{◌≡◌, ℕ, zero, suc, ◌+◌, ◌<◌, ◌≤◌, List, [], ◌∷◌, ◌++◌, length, get_or, take, drop, set, sym, refl, ap, ◌∙◌, not-suc-le-zero, add-one, arith, length-set, length-take-le, take-suc, take_at}
+use Rattle.std.proofs.Common.{◌≡◌, Ok, Err, ℕ, zero, suc, ◌+◌, ◌<◌, ◌≤◌, List, [], ◌∷◌, ◌++◌, length, get_or, take, drop, set, sym, refl, ap, ◌∙◌, not-suc-le-zero, add-one, arith, length-set, length-take-le, take-suc, take_at}
 use mathlib.Core.Option.{Option, none, some}
 use lib.Seq.{length-sets, sets, sets-eq, take-length}
 use Rattle.rules.specs.declared.Block.{Block}
@@ -13,8 +13,7 @@ use Rattle.stores.specs.Headers.{open_of}
 use Rattle.stores.specs.Promise.{Slices, call_of, lent_of, Heeds}
 use Rattle.stores.proofs.Promises.{heeds_first, heeds_later}
 use Rattle.blocks.specs.Promise.{BlocksDecided, BlocksPromise, Leads, NextPromise, SearchDecided, SearchPromise, records, says_blocked}
-use Rattle.blocks.specs.declared.blocks.Blocked.{Blocked}
-use Rattle.blocks.specs.declared.blocks.Blocked.TheVariants.{Are, Refused}
+use Rattle.blocks.specs.Searches.{tally}
 use Rattle.blocks.specs.declared.blocks.Found.{Found}
 use Rattle.blocks.specs.declared.blocks.Spot.{Spot}
 use Rattle.blocks.proofs.Searching.{finding}
@@ -77,7 +76,32 @@ records_set ys bs h =
     records_take (length bs) (sets ys 0 bs) (rw (length-sets ys 0 bs) h)
     ∙ ap (take (length bs)) (sets-eq bs ys 0 (omega arith)) ∙ take_at bs _ (length bs) refl
 
-module _ {os : List ℕ} {s : Slices} {f : Found} {ys : List Block} (P : SearchPromise os (length ys) s f) {i : ℕ} {at : Spot} {zs : List Block}
+-- a refused search writes nothing
+pub kept_refused : {os : List ℕ} {s : Slices} {k : Refusal} (ys : List Block) → SearchPromise os (length ys) s (Err k)
+    → BlocksPromise os s s ys ys (refused k)
+kept_refused {os} {s} {k} ys P = record {
+  decides = λ t h. decided t (replied t os (length ys) s) (P.decides t h) refl;
+  heeds = heeding (open_of (lent_of s) s.base) refl;
+}
+  where
+    decided : (t : State) {y : Reply} → Replied y → SearchDecided t os (length ys) s (Err k) → y ≡ reply t (call_of (to_blocks os (length ys)) s)
+        → BlocksDecided t os s s ys ys (refused k)
+    decided t (no {r}) D e =
+        let a : Err k ≡ Err r = D.answer ∙ rw (← e) in
+        let q : k ≡ r = cc in
+        rw q (record { says = e; leaves = D.leaves; answers = refl })
+    decided t (are {bs}) D e = absurd (let a : tally (Err k) ≡ Ok (length bs) = D.answer ∙ rw (← e) in cc)
+
+    heeding : (h : Header) → h ≡ open_of (lent_of s) s.base → Heeds (to_blocks os (length ys)) s s ys ys (refused k)
+    heeding (Unopened r) e =
+        let a = P.first r (sym e) in
+        let q : k ≡ r = cc in
+        rw q (heeds_first (to_blocks os (length ys)) s e ys refl)
+    heeding (Headed c) e = heeds_later (to_blocks os (length ys)) s e refl
+        (λ j q. let i : k ≡ j = cc in rw (← i, P.later c (sym e)))
+        (λ j q n. (refl, refl))
+
+module _ {os : List ℕ} {s : Slices} {f : Found} {ys : List Block} (P : SearchPromise os (length ys) s (Ok f)) {i : ℕ} {at : Spot} {zs : List Block}
     (E : Emitting os s f ys i at zs) (full : i ≡ f.count) where
   written : (bs : List Block) → f.count ≡ length bs → (0 < f.count → Leads os s f f.spot bs) → zs ≡ sets ys 0 bs
   written [] z g = E.none (full ∙ z)
@@ -85,32 +109,24 @@ module _ {os : List ℕ} {s : Slices} {f : Found} {ys : List Block} (P : SearchP
       let q : i ≡ length (b ∷ bs) = full ∙ z in
       E.written (b ∷ bs) (g (omega arith)) (omega arith) ∙ rw (q, take-length (b ∷ bs))
 
-  decided : (t : State) {y : Reply} → Replied y → SearchDecided t os (length ys) s f → y ≡ reply t (call_of (to_blocks os (length ys)) s)
-      → BlocksDecided t os s s ys zs (says_blocked zs f.answer)
-  decided t (no {r}) D e =
-      let a : f.answer ≡ Refused r = D.answer ∙ rw (← e) in
-      rw a (record { says = e; leaves = D.leaves; answers = E.none (full ∙ P.none r a) })
+  decided : (t : State) {y : Reply} → Replied y → SearchDecided t os (length ys) s (Ok f) → y ≡ reply t (call_of (to_blocks os (length ys)) s)
+      → BlocksDecided t os s s ys zs (says_blocked zs (Ok f.count))
+  decided t (no {r}) D e = absurd (let a : tally (Ok f) ≡ Err r = D.answer ∙ rw (← e) in cc)
   decided t (are {bs}) D e =
-      let a : f.answer ≡ Are (length bs) = D.answer ∙ rw (← e) in
       let c : f.count ≡ length bs = D.count ∙ rw (← e) in
       let w : zs ≡ sets ys 0 bs = written bs c (λ h. rw (← e) at (D.leads h)) in
       let y : records (length bs) zs ≡ bs = ap (records (length bs)) w ∙ records_set ys bs (omega (arith, P.few)) in
-      rw (a, y) (record { says = e; leaves = D.leaves; answers = w })
+      rw (c, y) (record { says = e; leaves = D.leaves; answers = w })
 
-  says_refused : (a : Blocked) (k : Refusal) → says_blocked zs a ≡ refused k → a ≡ Refused k
-  says_refused (Are n) k e = absurd (let y : ◌≡◌ {A = ℕ} 0 1 = cc in omega arith)
-  says_refused (Refused r) k e = cc
+  says_not : (k : Refusal) → says_blocked zs (Ok f.count) ≡ refused k → ⊥
+  says_not k e = let y : ◌≡◌ {A = ℕ} 0 1 = cc in omega arith
 
   -- of any contents
-  heeding : (h : Header) → h ≡ open_of (lent_of s) s.base → Heeds (to_blocks os (length ys)) s s ys zs (says_blocked zs f.answer)
-  heeding (Unopened r) e =
-      let a = P.first r (sym e) in
-      rw (a, E.none (full ∙ P.none r a)) (heeds_first (to_blocks os (length ys)) s e ys refl)
-  heeding (Headed c) e = heeds_later (to_blocks os (length ys)) s e refl
-      (λ k q. rw (P.later c (sym e) k (says_refused f.answer k q)))
-      (λ k q n. (refl, E.none (full ∙ P.none k (says_refused f.answer k q))))
+  heeding : (h : Header) → h ≡ open_of (lent_of s) s.base → Heeds (to_blocks os (length ys)) s s ys zs (says_blocked zs (Ok f.count))
+  heeding (Unopened r) e = absurd (let a = P.first r (sym e) in cc)
+  heeding (Headed c) e = heeds_later (to_blocks os (length ys)) s e refl (λ k q. absurd (says_not k q)) (λ k q n. absurd (says_not k q))
 
-  pub kept : BlocksPromise os s s ys zs (says_blocked zs f.answer)
+  pub kept : BlocksPromise os s s ys zs (says_blocked zs (Ok f.count))
   kept = record {
     decides = λ t h. decided t (replied t os (length ys) s) (P.decides t h) refl;
     heeds = heeding (open_of (lent_of s) s.base) refl;

@@ -1,80 +1,44 @@
 -- Laws of critical arcs and of the scan along a route. Assumes nothing.
-use Rattle.std.proofs.Common.{◌≡◌, ℕ, suc, ◌+◌, ◌/◌, ◌%◌, ◌^◌, ◌<◌, ◌≤◌, Bool, true, false, ◌&&◌, eqb, ltb, ◌⊎◌, List, [], ◌∷◌, ◌++◌, length, get_or, drop, sym, refl, ap, ◌∙◌, inl, inr, ⊎_elim, append-nil, add-one, arith, drop_of_length-le, drop-cons, rules, le-ltb, lt-ltb, eq-eqb, ne_eqb}
+use Rattle.std.specs.List.{list_any}
+use Rattle.std.proofs.Common.{◌≡◌, ◌-◌, Option, Some, None, ℕ, suc, ◌+◌, ◌/◌, ◌%◌, ◌^◌, ◌<◌, ◌≤◌, Bool, true, false, ◌&&◌, eqb, ltb, ◌⊎◌, List, [], ◌∷◌, ◌++◌, length, get_or, drop, sym, refl, ap, ◌∙◌, inl, inr, ⊎_elim, append-nil, add-one, arith, drop_of_length-le, drop-cons, rules, le-ltb, lt-ltb, eq-eqb, ne_eqb}
 use Rattle.rules.specs.declared.Block.{Block}
 use Rattle.rules.specs.Blocks.{ends, scan}
 use Rattle.rules.specs.Graphs.{Graph}
 use Rattle.rules.specs.Lists.{memb}
 use Rattle.rules.proofs.Ranges.{clash, lt_or_le}
+use Rattle.routes.proofs.Lists.{swap_eqb}
 use Rattle.edges.specs.Edges.{Model, Holds}
 use Rattle.edges.specs.Lists.{Successors}
 use Rattle.graphs.specs.Graph.{at, live}
-use Rattle.words.proofs.Rows.{row_cons, row_none}
-use Rattle.blocks.specs.Arcs.{Sight, sight, crit_in, tight_in, join_in, arc_in, Joins, Arced, scan_from, block_of, Ended, First}
-
--- ── `is_critical` ──
-
-module _ (c : List ℕ) (n x : ℕ) {v : ℕ} (ev : v ≡ x / 2) where
-  pub crit_out : n ≤ v → false ≡ crit_in c n x
-  unfolding crit_in
-  crit_out h = rw (← ev, le-ltb v n h)
-
-  pub crit_is : v < n → eqb (at c v) 1 ≡ crit_in c n x
-  unfolding crit_in
-  crit_is h = rw (← ev, lt-ltb v n h)
-
--- ── `has`: what is left to look through decides ──
-
-module _ (row : List ℕ) (v k : ℕ) {w : Bool} (i : memb v (drop k row) ≡ w) where
-  pub has_here : k < length row → get_or row k 0 ≡ v → true ≡ w
-  has_here h q = rw (row_cons row k h, q, eq-eqb v v refl) at i
-
-  pub has_next : k < length row → (get_or row k 0 ≡ v → ⊥) → memb v (drop (k + 1) row) ≡ w
-  has_next h q = rw (row_cons row k h, ne_eqb v (get_or row k 0) (λ z. q (sym z))) at i
-
-  pub has_none : length row ≤ k → false ≡ w
-  has_none h = rw (row_none row k h) at i
+use Rattle.blocks.specs.Arcs.{Sight, sight, crit_in, tight_in, join_in, arc_in, Joins, Arced, scan_from, block_of, Ended, Begins}
 
 -- ── `joins` ──
+
+contained : (v : ℕ) (row : List ℕ) → list_any (λ y. eqb y v) row ≡ memb v row
+contained v [] = refl
+contained v (w ∷ l) = rw (swap_eqb w v, contained v l)
 
 pub joins_joined : {e : List ℕ} {u y : ℕ} → y % 2 ≡ 1 → Joins e u y true
 unfolding join_in
 joins_joined {y = y} q = record { is = λ m h. rw (eq-eqb (y % 2) 1 q) }
 
-pub joins_has : {e row : List ℕ} {u y : ℕ} {r : Bool} → Successors e u row → r ≡ memb (y / 2) row → (y % 2 ≡ 1 → ⊥) → Joins e u y r
+pub joins_has : {e row : List ℕ} {u y : ℕ} {r : Bool} → Successors e u row → r ≡ list_any (λ x. eqb x (y / 2)) row → (y % 2 ≡ 1 → ⊥) → Joins e u y r
 unfolding join_in
-joins_has {y = y} S er q = record { is = λ m h. rw (ne_eqb (y % 2) 1 q) (er ∙ ap (memb (y / 2)) (S.is m h)) }
-
--- ── `tight` ──
-
-module _ (sp st c : List ℕ) (u v : ℕ) where
-  pub tight_first : (at c u ≡ 1 → ⊥) → false ≡ tight_in sp st c u v
-  unfolding tight_in
-  tight_first f = rw (ne_eqb (at c u) 1 f)
-
-  pub tight_second : at c u ≡ 1 → (at c v ≡ 1 → ⊥) → false ≡ tight_in sp st c u v
-  unfolding tight_in
-  tight_second q f = rw (eq-eqb (at c u) 1 q, ne_eqb (at c v) 1 f)
-
-  pub tight_third : {x : ℕ} → x ≡ (at st u + at sp u) % 2 ^ 64 → at c u ≡ 1 → at c v ≡ 1 → eqb x (at st v) ≡ tight_in sp st c u v
-  unfolding tight_in
-  tight_third ex q z = rw (eq-eqb (at c u) 1 q, eq-eqb (at c v) 1 z, ex)
+joins_has {row = row} {y = y} S er q = record { is = λ m h. rw (ne_eqb (y % 2) 1 q) (er ∙ contained (y / 2) row ∙ ap (memb (y / 2)) (S.is m h)) }
 
 -- ── `is_arc` ──
 
-module _ (e sp st c : List ℕ) {n x y u v : ℕ} (eu : u ≡ x / 2) (ev : v ≡ y / 2) where
-  pub arc_first : n ≤ u → Arced e (sight sp st c n) x y false
+module _ (e sp st c : List ℕ) {n x y u v : ℕ} (eu : u ≡ x / 2) (ev : v ≡ y / 2) {r : Bool} where
+  pub arc_out : r ≡ false → ((u < n) × (n ≤ v)) ⊎ (n ≤ u) → Arced e (sight sp st c n) x y r
   unfolding arc_in
-  arc_first h = record { is = λ m hm. rw (← eu, le-ltb u n h) }
+  arc_out q (inl (k, h)) = record { is = λ m hm. q ∙ rw (← eu, ← ev, lt-ltb u n k, le-ltb v n h) }
+  arc_out q (inr h) = record { is = λ m hm. q ∙ rw (← eu, le-ltb u n h) }
 
-  pub arc_second : u < n → n ≤ v → Arced e (sight sp st c n) x y false
+  pub arc_loose : {t : Bool} → t ≡ tight_in sp st c u v → r ≡ t → r ≡ false → u < n → v < n → Arced e (sight sp st c n) x y r
   unfolding arc_in
-  arc_second k h = record { is = λ m hm. rw (← eu, ← ev, lt-ltb u n k, le-ltb v n h) }
+  arc_loose et z q h k = record { is = λ m hm. q ∙ rw (← eu, ← ev, lt-ltb u n h, lt-ltb v n k, ← et, ← z, q) }
 
-  pub arc_loose : {t : Bool} → t ≡ tight_in sp st c u v → t ≡ false → u < n → v < n → Arced e (sight sp st c n) x y false
-  unfolding arc_in
-  arc_loose et q h k = record { is = λ m hm. rw (← eu, ← ev, lt-ltb u n h, lt-ltb v n k, ← et, q) }
-
-  pub arc_joins : {t r : Bool} → Joins e u y r → t ≡ tight_in sp st c u v → t ≡ true → u < n → v < n → Arced e (sight sp st c n) x y r
+  pub arc_joins : {t : Bool} → Joins e u y r → t ≡ tight_in sp st c u v → t ≡ true → u < n → v < n → Arced e (sight sp st c n) x y r
   unfolding arc_in
   arc_joins J et q h k = record { is = λ m hm. J.is m hm ∙ rw (← eu, ← ev, lt-ltb u n h, lt-ltb v n k, ← et, q) }
 
@@ -151,8 +115,10 @@ module _ {e : List ℕ} {S : Sight} {w : List ℕ} {from i : ℕ} (R : Running e
     is = λ m hm q o. R.is m hm o ∙ scan_off (live m) S o w from i R.inside (f m hm) ∙ rw (block_is (live m) S o w from i R.rising q);
   }
 
-  pub running_done : length w ≤ i + 1 → Ended e S w from i
-  running_done h = run_over (λ m hm k. let f : ⊥ = omega arith in absurd f)
+  pub running_done : {r : ℕ} → r ≡ length w - 1 → length w - 1 ≤ i → Ended e S w from r
+  running_done {r} er h =
+      let q : r ≡ i = let a = R.inside in omega arith in
+      rw q (run_over (λ m hm k. let f : ⊥ = omega arith in absurd f))
 
   module _ {r : Bool} (A : Arced e S (get_or w i 0) (get_or w (i + 1) 0) r) where
     pub running_stops : r ≡ false → Ended e S w from i
@@ -176,8 +142,8 @@ pub seeking_none : (c : List ℕ) (n : ℕ) (w : List ℕ) (from : ℕ) → Seek
 seeking_none c n w from = record { rising = omega arith; is = λ E sp st o. refl }
 
 module _ {c : List ℕ} {n : ℕ} {w : List ℕ} {from i : ℕ} (K : Seeking c n w from i) where
-  pub seeking_found : {r : Bool} → r ≡ crit_in c n (get_or w i 0) → r ≡ true → First c n w from i
-  seeking_found er q = record { rising = K.rising; marked = λ h. sym er ∙ q; is = K.is }
+  pub seeking_found : {r : Bool} → r ≡ crit_in c n (get_or w i 0) → r ≡ true → i < length w → Begins c n w from (Some i)
+  seeking_found er q h = (h, record { rising = K.rising; marked = λ k. sym er ∙ q; is = K.is })
 
   pub seeking_next : {r : Bool} → r ≡ crit_in c n (get_or w i 0) → r ≡ false → i < length w → Seeking c n w from (i + 1)
   seeking_next er q h = record {
@@ -185,8 +151,9 @@ module _ {c : List ℕ} {n : ℕ} {w : List ℕ} {from i : ℕ} (K : Seeking c n
     is = λ E sp st o. K.is E sp st o ∙ rw add-one (scan_skip E (sight sp st c n) o w i h (sym er ∙ q));
   }
 
-  pub seeking_done : length w ≤ i → First c n w from i
-  seeking_done h = record { rising = K.rising; marked = λ k. let f : ⊥ = omega arith in absurd f; is = K.is }
+  pub seeking_done : length w ≤ i → Begins c n w from None
+  unfolding scan_from
+  seeking_done h = λ E sp st o. K.is E sp st o ∙ rw (drop_of_length-le w h)
 
 -- what the functions of runs are proved by
-pub ruleset running = (rules, crit_out, crit_is, has_here, has_next, has_none, joins_joined, joins_has, tight_first, tight_second, tight_third, arc_first, arc_second, arc_loose, arc_joins, running_none, running_next, running_stops, running_done, seeking_none, seeking_found, seeking_next, seeking_done)
+pub ruleset running = (rules, joins_joined, joins_has, arc_out, arc_loose, arc_joins, running_none, running_next, running_stops, running_done, seeking_none, seeking_found, seeking_next, seeking_done)

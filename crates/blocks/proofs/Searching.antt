@@ -1,5 +1,5 @@
 -- Laws of the search, and of finding one block after the other. Assumes nothing.
-use Rattle.std.proofs.Common.{◌≡◌, ℕ, ◌+◌, ◌<◌, ◌≤◌, Bool, true, false, not, eqb, ltb, ◌⊎◌, List, [], ◌∷◌, length, get_or, take, drop, replicate, sym, refl, ap, ◌∙◌, inl, inr, arith, length-drop, drop_of_length-le, length-take, length-take-le, get_or-drop, drop-drop, rules, le-ltb}
+use Rattle.std.proofs.Common.{◌≡◌, Result, Ok, Err, IfOk, ℕ, ◌+◌, ◌<◌, ◌≤◌, Bool, true, false, not, eqb, ltb, ◌⊎◌, List, [], ◌∷◌, length, get_or, take, drop, replicate, sym, refl, ap, ◌∙◌, inl, inr, arith, length-drop, drop_of_length-le, length-take, length-take-le, get_or-drop, drop-drop, rules, le-ltb}
 use mathlib.Core.Option.{none, some}
 use Rattle.rules.specs.declared.Block.{Block}
 use Rattle.rules.specs.declared.Plan.{Plan as Header-as-Plan}
@@ -10,7 +10,7 @@ use Rattle.rules.specs.Sizes.{edges_length, is_short, most_jobs, routes_length, 
 use Rattle.rules.specs.Routes.{Plan, State}
 use Rattle.rules.specs.Scores.{is_cyclic}
 use Rattle.rules.specs.Blocks.{blocks, no_block}
-use Rattle.rules.specs.Calls.{Reply, accepted, blocked, refused, reply, to_blocks}
+use Rattle.rules.specs.Calls.{accepted, blocked, refused, reply, to_blocks}
 use Rattle.rules.proofs.Ranges.{Test, pass, fail, test, lt_or_le}
 use Rattle.rules.proofs.Runs.{blocks_cyclic}
 use Rattle.graphs.specs.Graph.{live}
@@ -27,47 +27,34 @@ use Rattle.stores.proofs.Promises.{closed_kept, decided_read, decided_refused, r
 use Rattle.blocks.specs.Latests.{Criticals}
 use Rattle.blocks.specs.Arcs.{sight}
 use Rattle.blocks.specs.Overs.{ahead, begun, fitting, Counted, Stepped}
-use Rattle.blocks.specs.Searches.{Calm, ahead_of, nothing_to, Refuses, Finds, Counts}
-use Rattle.blocks.specs.Promise.{Leads, SearchDecided, SearchPromise, NextPromise, answer_to, blocks_in}
-use Rattle.blocks.specs.declared.blocks.Blocked.{Blocked}
-use Rattle.blocks.specs.declared.blocks.Blocked.TheVariants.{Are, Refused}
+use Rattle.blocks.specs.Searches.{Calm, ahead_of, tally, Refuses, Finds, Counts}
+use Rattle.blocks.specs.Promise.{Leads, SearchDecided, SearchPromise, NextPromise}
 use Rattle.blocks.specs.declared.blocks.Found.{Found}
 use Rattle.blocks.specs.declared.blocks.Spot.{Spot}
 use Rattle.blocks.proofs.Calming.{ahead_is, words_ahead}
 
-are_not : {A : Type 0} {k : ℕ} {r : Refusal} → Are k ≡ Refused r → A
-are_not q = absurd (let z : ◌≡◌ {A = ℕ} 0 1 = cc in omega arith)
-
-are_refuses : (f : Found) {k : ℕ} → f.answer ≡ Are k → Refuses f
-are_refuses f a j q = are_not (sym a ∙ q)
-
--- ── `nothing` ──
-
-pub nothing_is : (a : Blocked) {at : Spot} → at ≡ begun → record { crit = replicate most_jobs 0; spot = at; count = 0; answer = a } ≡ nothing_to a
-nothing_is a q = rw q
-
 -- ── `counted` ──
 
-module _ {e sp st l os : List ℕ} {top n all room : ℕ} {c : List ℕ} {q : Blocked} (N : Counted e (sight sp st c n) l all os room q)
+module _ {e sp st l os : List ℕ} {top n all room : ℕ} {c : List ℕ} {q : Result ℕ Refusal} (N : Counted e (sight sp st c n) l all os room q)
     (K : Criticals e sp st top n c) where
   count_is : (p : Plan) → Calm e sp st top n l all p → q ≡ fitting room (length (blocks p os))
   count_is p C =
       N.is (edges_of p) (routes_of p) C.desk.edges C.desk.routes
       ∙ ap (λ (bs : List Block). fitting room (length bs)) (words_ahead C K os)
 
-  pub counted_none : {r : Refusal} {f : Found} → q ≡ Refused r → f ≡ nothing_to (Refused r) → Counts e sp st top n l all os room f
-  counted_none {r} x y = rw y (record {
-    few = omega arith;
-    refuses = λ k z. let i : r ≡ k = cc in let w : r ≡ ShortAnswer = (rw x at N.fits) in (sym i ∙ w, refl);
-    is = λ p C. record { answer = sym x ∙ count_is p C; count = λ z. are_not (sym z); leads = λ z. absurd (omega arith) };
-  })
+  pub counted_none : {r : Refusal} → q ≡ Err r → Counts e sp st top n l all os room (Err r)
+  counted_none {r} x = record {
+    few = tt;
+    refuses = rw x at N.fits;
+    is = λ p C. record { answer = sym x ∙ count_is p C; leads = tt };
+  }
 
-  pub counted_all : {k : ℕ} {at : Spot} → q ≡ Are k → at ≡ begun
-      → Counts e sp st top n l all os room (record { crit = c; spot = at; count = k; answer = Are k })
+  pub counted_all : {k : ℕ} {at : Spot} → q ≡ Ok k → at ≡ begun
+      → Counts e sp st top n l all os room (Ok (record { crit = c; spot = at; count = k }))
   counted_all {k} {at} x y = record {
     few = rw x at N.fits;
-    refuses = are_refuses (record { crit = c; spot = at; count = k; answer = Are k }) refl;
-    is = λ p C. record { answer = sym x ∙ count_is p C; count = λ z. cc; leads = λ z. rw y (ahead_is C K os) };
+    refuses = tt;
+    is = λ p C. record { answer = sym x ∙ count_is p C; leads = λ z. rw y (ahead_is C K os) };
   }
 
 -- ── `search` ──
@@ -110,69 +97,63 @@ cyclic_held l p e = ap (λ (x : ℕ). not (eqb x 0)) (timed p l e).0 ∙ mark_se
 opens_not : {A : Type 0} {c : Header-as-Plan} {r : Refusal} → Headed c ≡ Unopened r → A
 opens_not e = absurd (let z : ◌≡◌ {A = ℕ} 0 1 = cc in omega arith)
 
--- in the state t the rules answer y
-decided_as : {t : State} {os : List ℕ} {room : ℕ} {s : Slices} {f : Found} (y : Reply) → y ≡ reply t (call_of (to_blocks os room) s)
-    → s ≡ after t (call_of (to_blocks os room) s) s → f.answer ≡ answer_to y → f.count ≡ length (blocks_in y)
-    → (0 < f.count → Leads os s f f.spot (blocks_in y)) → SearchDecided t os room s f
-decided_as y q l a c g = record { answer = rw (← q) a; count = rw (← q) c; leads = rw (← q) g; leaves = l }
+-- in the state t the rules refuse
+decided_no : {t : State} {os : List ℕ} {room : ℕ} {s : Slices} {k : Refusal} → refused k ≡ reply t (call_of (to_blocks os room) s)
+    → s ≡ after t (call_of (to_blocks os room) s) s → SearchDecided t os room s (Err k)
+decided_no q l = record { answer = rw (← q); count = tt; leads = tt; leaves = l }
 
 module _ (os : List ℕ) (room : ℕ) (s : Slices) {h : Header} (opens : h ≡ open_of (lent_of s) s.base) where
-  pub searched_closed : {r : Refusal} {f : Found} → h ≡ Unopened r → f ≡ nothing_to (Refused r) → SearchPromise os room s f
-  searched_closed {r} e x = rw x (record {
-    decides = λ t k. let d = (closed_kept (to_blocks os room) s opens [] refl e).decides t k in
-        decided_as (refused r) d.says d.leaves refl refl (λ z. absurd (omega arith));
-    first = λ k q. let i : r ≡ k = cc in ap Refused i;
+  pub searched_closed : {r : Refusal} → h ≡ Unopened r → SearchPromise os room s (Err r)
+  searched_closed {r} e = record {
+    decides = λ t k. let d = (closed_kept (to_blocks os room) s opens [] refl e).decides t k in decided_no d.says d.leaves;
+    first = λ k q. let i : r ≡ k = cc in ap Err i;
     later = λ c q. opens_not (sym q ∙ sym opens ∙ e);
-    none = λ k q. refl;
-    few = omega arith;
-  })
+    few = tt;
+  }
 
-  module _ {plan : Header-as-Plan} (is : h ≡ Headed plan) {f : Found} where
+  module _ {plan : Header-as-Plan} (is : h ≡ Headed plan) {r : Result Found Refusal} where
     -- a store that opens stands for a plan, if it stands for anything
-    opened : ((p : Plan) → is_short (lent_of s) ≡ false → Held s p → plan ≡ counts_of p.base → Finds p os room f) → Refuses f → f.count ≤ room
-        → SearchPromise os room s f
+    opened : ((p : Plan) → is_short (lent_of s) ≡ false → Held s p → plan ≡ counts_of p.base → Finds p os room r) → Refuses r
+        → IfOk r (λ f. f.count ≤ room) → SearchPromise os room s r
     unfolding accepted
     opened g R few = record {
       decides = λ t k. go t k (test (is_short (lent_of s)));
       first = λ k q. opens_not (sym is ∙ opens ∙ q);
-      later = λ c x k q. (R k q).0;
-      none = λ k q. (R k q).1;
+      later = λ c x. R;
       few = few;
     }
       where
-        found : (p : Plan) → is_short (lent_of s) ≡ false → Held s p → Finds p os room f → Test (ltb room (length (blocks p os)))
-            → SearchDecided (some p) os room s f
-        found p x H F (pass z) =
-            let a : f.answer ≡ Refused ShortAnswer = F.answer ∙ rw z in
-            let c = (R ShortAnswer a).1 in
+        found : (p : Plan) → is_short (lent_of s) ≡ false → Held s p → (x : Result Found Refusal) → Finds p os room x
+            → Test (ltb room (length (blocks p os))) → SearchDecided (some p) os room s x
+        found p x H (Err k) F (pass z) =
             let d = decided_refused (some p) (to_blocks os room) s [] ShortAnswer (refusal_long (some p) (to_blocks os room) s x ∙ rw z) in
-            decided_as (refused ShortAnswer) d.says d.leaves a c (λ y. absurd (omega arith))
-        found p x H F (fail z) =
-            let a : f.answer ≡ Are (length (blocks p os)) = F.answer ∙ rw z in
+            let e : k ≡ ShortAnswer = let a : tally (Err k) ≡ Err ShortAnswer = F.answer ∙ rw z in cc in
+            rw e (decided_no d.says d.leaves)
+        found p x H (Ok f) F (pass z) = absurd (let a : tally (Ok f) ≡ Err ShortAnswer = F.answer ∙ rw z in cc)
+        found p x H (Err k) F (fail z) = absurd (let a : tally (Err k) ≡ Ok (length (blocks p os)) = F.answer ∙ rw z in cc)
+        found p x H (Ok f) F (fail z) =
+            let a : tally (Ok f) ≡ Ok (length (blocks p os)) = F.answer ∙ rw z in
+            let n : f.count ≡ length (blocks p os) = cc in
             let d = decided_read p (to_blocks os room) s H (refusal_long (some p) (to_blocks os room) s x ∙ rw z) [] (blocked (blocks p os)) refl refl in
-            decided_as (blocked (blocks p os)) d.says d.leaves a (F.count a)
-            (λ y. record { plan = p; long = x; held = H; is = F.leads y })
+            let q = d.says in
+            record {
+              answer = rw (← q) a;
+              count = rw (← q) n;
+              leads = rw (← q) (λ y. record { plan = p; long = x; held = H; is = F.leads y });
+              leaves = d.leaves;
+            }
 
-        go : (t : State) → StandsFor s t → Test (is_short (lent_of s)) → SearchDecided t os room s f
+        go : (t : State) → StandsFor s t → Test (is_short (lent_of s)) → SearchDecided t os room s r
         go t k (pass x) = opens_not (sym is ∙ opens ∙ open_short s.base (lent_of s) x)
         go none k (fail x) = opens_not (sym is ∙ opens ∙ open_none s x (k x))
         go (some p) k (fail x) =
             let y = sym is ∙ opens ∙ open_some s x p (k x) in
             let q : plan ≡ counts_of p.base = cc in
-            found p x (k x) (g p x (k x) q) (test (ltb room (length (blocks p os))))
-
-    pub searched_cyclic : {b : Bool} → b ≡ cyclic_in s.times → b ≡ true → f ≡ nothing_to (Are 0) → SearchPromise os room s f
-    searched_cyclic eb q x = opened (λ p y H z. rw x (none_found p (sym (cyclic_held s.times p H.times) ∙ sym eb ∙ q)))
-        (rw x (are_refuses (nothing_to (Are 0)) refl)) (rw x (omega arith))
-      where
-        none_found : (p : Plan) → is_cyclic p ≡ true → Finds p os room (nothing_to (Are 0))
-        none_found p y =
-            let k = blocks_cyclic p os y in
-            record { answer = rw (k, le-ltb room 0 (omega arith)); count = λ z. rw k; leads = λ z. absurd (omega arith) }
+            found p x (k x) r (g p x (k x) q) (test (ltb room (length (blocks p os))))
 
     pub searched_calm : {b : Bool} {st : List ℕ} {top n : ℕ}
-        → Counts (take edges_length s.edges) (take spans_length s.spans) st top n (take routes_length s.routes) plan.owners os room f
-        → st ≡ starts_in s.times → top ≡ makespan_in s.times → n ≡ plan.jobs → b ≡ cyclic_in s.times → b ≡ false → SearchPromise os room s f
+        → Counts (take edges_length s.edges) (take spans_length s.spans) st top n (take routes_length s.routes) plan.owners os room r
+        → st ≡ starts_in s.times → top ≡ makespan_in s.times → n ≡ plan.jobs → b ≡ cyclic_in s.times → b ≡ false → SearchPromise os room s r
     searched_calm K es et en eb q = opened (λ p y H z. K.is p (record {
       desk = H.desk;
       spans = H.spans;
@@ -182,6 +163,17 @@ module _ (os : List ℕ) (room : ℕ) (s : Slices) {h : Header} (opens : h ≡ o
       owners = ap (λ (c : Header-as-Plan). c.owners) z;
       calm = sym (cyclic_held s.times p H.times) ∙ sym eb ∙ q;
     })) K.refuses K.few
+
+  -- a cyclic plan has no blocks
+  pub searched_cyclic : {plan : Header-as-Plan} {b : Bool} {f : Found} → h ≡ Headed plan → b ≡ cyclic_in s.times → b ≡ true → f.count ≡ 0
+      → SearchPromise os room s (Ok f)
+  searched_cyclic {f = f} is eb q z =
+      opened is (λ p y H w. none_found p (sym (cyclic_held s.times p H.times) ∙ sym eb ∙ q)) tt (rw z (omega arith))
+    where
+      none_found : (p : Plan) → is_cyclic p ≡ true → Finds p os room (Ok f)
+      none_found p y =
+          let k = blocks_cyclic p os y in
+          record { answer = rw (k, z, le-ltb room 0 (omega arith)); leads = λ w. absurd (omega arith) }
 
 -- ── `next` ──
 
@@ -242,4 +234,4 @@ finding bs i L N =
     (N.block (drop i bs) L ∙ get_or-drop i bs 0 no_block ∙ ap (λ (k : ℕ). get_or bs k no_block) z, rw (← drop-drop 1 i bs) (N.leads (drop i bs) L))
 
 -- what the functions of the search are proved by
-pub ruleset searching = (rules, nothing_is, counted_none, counted_all, long_spans, long_edges, long_routes, long_times, few_jobs, few_starts, few_in, length-take-le, searched_closed, searched_cyclic, searched_calm, moved_closed, moved_on_lem)
+pub ruleset searching = (rules, counted_none, counted_all, long_spans, long_edges, long_routes, long_times, few_jobs, few_starts, few_in, length-take-le, searched_closed, searched_cyclic, searched_calm, moved_closed, moved_on_lem)

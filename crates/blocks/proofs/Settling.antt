@@ -22,13 +22,9 @@ module _ (late : List ℕ) (n b : ℕ) {w k : ℕ} (ek : k ≡ w) where
   unfolding lower_of
   lower_out h = rw (← ek, le-leb n k h)
 
-  pub lower_less : k < n → at late k < b → at late k ≡ lower_of late n b w
+  pub lower_in : {x : ℕ} → k < n → x ≡ min (at late k) b → x ≡ lower_of late n b w
   unfolding lower_of
-  lower_less h l = rw (← ek, lt-leb n k h) (omega arith)
-
-  pub lower_more : k < n → b ≤ at late k → b ≡ lower_of late n b w
-  unfolding lower_of
-  lower_more h l = rw (← ek, lt-leb n k h) (omega arith)
+  lower_in h ex = rw (← ek, lt-leb n k h) ex
 
 -- ── `latest`: what is found is what is left to find ──
 
@@ -69,14 +65,6 @@ latest_done {e} {sp} {late} {row} {v} {n} {top} {k} low S i h er = record {
       ∙ least_list n (live m v) (at late) top (out_of m v) (λ u z. ((b v u z).1, z)) (λ u y z. z) in
       er ∙ ap (λ (x : ℕ). x - at sp v) q;
 }
-
--- ── `flag` ──
-
-pub flag_same : {a b : ℕ} → a ≡ b → 1 ≡ tick (eqb a b) 0
-flag_same {a} {b} q = rw (eq-eqb a b q)
-
-pub flag_other : {a b : ℕ} → (a ≡ b → ⊥) → 0 ≡ tick (eqb a b) 0
-flag_other {a} {b} q = rw (ne_eqb a b q)
 
 -- ── `latests` ──
 
@@ -169,4 +157,4 @@ critical_none {n = n} U q = record {
 }
 
 -- what the functions of critical jobs are proved by
-pub ruleset settling = (rules, lower_out, lower_less, lower_more, lowest_next, latest_done, flag_same, flag_other, later_none, later_out, later_next, later_done, critical_all, critical_none)
+pub ruleset settling = (rules, lower_out, lower_in, lowest_next, latest_done, later_none, later_out, later_next, later_done, critical_all, critical_none)

@@ -1,5 +1,5 @@
 -- Critical arcs between stops' words, and the scan along them. Assumes nothing.
-use Rattle.std.specs.Prelude.{◌≡◌, ℕ, suc, ◌+◌, ◌/◌, ◌%◌, ◌^◌, ◌<◌, ◌≤◌, Bool, true, ◌&&◌, ◌||◌, List, ◌∷◌, length, drop, ◌==◌, nat_lt, slice_index}
+use Rattle.std.specs.Prelude.{◌≡◌, ℕ, suc, ◌+◌, ◌/◌, ◌%◌, ◌^◌, ◌<◌, ◌≤◌, Bool, true, ◌&&◌, ◌||◌, Option, Some, None, List, [], ◌∷◌, length, drop, ◌==◌, nat_lt, slice_index}
 use Rattle.rules.specs.declared.Block.{Block}
 use Rattle.rules.specs.Blocks.{scan}
 use Rattle.rules.specs.Graphs.{Graph}
@@ -60,3 +60,8 @@ pub record First (c : List ℕ) (n : ℕ) (w : List ℕ) (from r : ℕ) : Type 0
   pub rising : from ≤ r
   pub marked : r < length w → crit_in c n (slice_index w r) ≡ true
   pub is : (E : Graph) (sp st : List ℕ) (o : ℕ) → scan_from E (sight sp st c n) o w from ≡ scan_from E (sight sp st c n) o w r
+
+-- where the next block begins, from a place on, if one does
+abbrev pub Begins : List ℕ → ℕ → List ℕ → ℕ → Option ℕ → Type 0
+Begins c n w from (Some r) = (r < length w) × First c n w from r
+Begins c n w from None = (E : Graph) (sp st : List ℕ) (o : ℕ) → scan_from E (sight sp st c n) o w from ≡ []

@@ -1,6 +1,7 @@
 -- The blocks of a list of owners. Assumes nothing.
-use Rattle.std.specs.Prelude.{◌≡◌, ℕ, ◌+◌, ◌-◌, ◌*◌, ◌<◌, ◌≤◌, cond, List, [], ◌∷◌, ◌++◌, length, drop, nat_lt}
+use Rattle.std.specs.Prelude.{◌≡◌, ℕ, ◌+◌, ◌-◌, ◌*◌, ◌<◌, ◌≤◌, cond, Result, Ok, Err, List, [], ◌∷◌, ◌++◌, length, drop, nat_lt}
 use Rattle.rules.specs.declared.Block.{Block}
+use Rattle.rules.specs.declared.Refusal.{Refusal}
 use Rattle.rules.specs.declared.Refusal.TheVariants.{ShortAnswer}
 use Rattle.rules.specs.Blocks.{no_block}
 use Rattle.rules.specs.Graphs.{Graph}
@@ -9,8 +10,6 @@ use Rattle.edges.specs.Edges.{Model, Holds as EdgesHold}
 use Rattle.graphs.specs.Graph.{live}
 use Rattle.routes.specs.Store.{Model as Routes, Holds, route_at, row}
 use Rattle.blocks.specs.Arcs.{Sight, scan_from}
-use Rattle.blocks.specs.declared.blocks.Blocked.{Blocked}
-use Rattle.blocks.specs.declared.blocks.Blocked.TheVariants.{Are, Refused}
 use Rattle.blocks.specs.declared.blocks.Spot.{Spot}
 
 -- "out of range skipped"
@@ -43,18 +42,18 @@ pub record Stepped (e : List ℕ) (S : Sight) (l : List ℕ) (all : ℕ) (os : L
       → (ahead (live m) S d all os at ≡ []) × (r.block ≡ no_block)
 
 -- 10: "the answer buffer has fewer places than the answer needs"
-abbrev pub fitting : ℕ → ℕ → Blocked
-fitting room k = cond (nat_lt room k) (Refused ShortAnswer) (Are k)
+abbrev pub fitting : ℕ → ℕ → Result ℕ Refusal
+fitting room k = cond (nat_lt room k) (Err ShortAnswer) (Ok k)
 
 -- before the first block
 abbrev pub begun : Spot
 begun = record { block = no_block; owner = 0; place = 0 }
 
 -- how many there are, or that they are more than `room`
-abbrev pub Fits : ℕ → Blocked → Type 0
-Fits room (Are k) = k ≤ room
-Fits room (Refused r) = r ≡ ShortAnswer
+abbrev pub Fits : ℕ → Result ℕ Refusal → Type 0
+Fits room (Ok k) = k ≤ room
+Fits room (Err r) = r ≡ ShortAnswer
 
-pub record Counted (e : List ℕ) (S : Sight) (l : List ℕ) (all : ℕ) (os : List ℕ) (room : ℕ) (r : Blocked) : Type 0 where
+pub record Counted (e : List ℕ) (S : Sight) (l : List ℕ) (all : ℕ) (os : List ℕ) (room : ℕ) (r : Result ℕ Refusal) : Type 0 where
   pub fits : Fits room r
   pub is : (m : Model) (d : Routes) → EdgesHold e m → Holds l d → r ≡ fitting room (length (ahead (live m) S d all os begun))

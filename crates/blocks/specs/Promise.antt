@@ -1,6 +1,6 @@
 -- What the public calls promise. `blocks`: the reply, every word of the slices, and every record of the answer buffer, all told by the rules
 -- from the state that the store stands for. `search` and `next`: the same blocks, one at a time. Assumes nothing.
-use Rattle.std.specs.Prelude.{◌≡◌, ℕ, ◌<◌, ◌≤◌, false, List, [], length, get_or, drop, slice_index_or}
+use Rattle.std.specs.Prelude.{◌≡◌, ℕ, ◌<◌, ◌≤◌, false, Result, Ok, Err, IfOk, IfErr, List, [], length, get_or, drop, slice_index_or}
 use Rattle.std.proofs.lemmas.List.Edits.{sets}
 use Rattle.rules.specs.declared.Block.{Block}
 use Rattle.rules.specs.declared.Plan.{Plan as Counts}
@@ -14,9 +14,7 @@ use Rattle.rules.specs.Blocks.{no_block}
 use Rattle.stores.specs.declared.header.Header.TheVariants.{Is, Refused as Unopened}
 use Rattle.stores.specs.Headers.{open_of}
 use Rattle.stores.specs.Promise.{Slices, Held, StandsFor, lent_of, call_of, after, Heeds}
-use Rattle.blocks.specs.Searches.{ahead_of}
-use Rattle.blocks.specs.declared.blocks.Blocked.{Blocked}
-use Rattle.blocks.specs.declared.blocks.Blocked.TheVariants.{Are, Refused}
+use Rattle.blocks.specs.Searches.{ahead_of, tally}
 use Rattle.blocks.specs.declared.blocks.Found.{Found}
 use Rattle.blocks.specs.declared.blocks.Spot.{Spot}
 
@@ -25,9 +23,9 @@ unfoldable pub records : ℕ → List Block → List Block
 records n out = table n (λ v. get_or out v no_block)
 
 -- so many blocks
-abbrev pub says_blocked : List Block → Blocked → Reply
-says_blocked out (Are k) = blocked (records k out)
-says_blocked out (Refused r) = refused r
+abbrev pub says_blocked : List Block → Result ℕ Refusal → Reply
+says_blocked out (Ok k) = blocked (records k out)
+says_blocked out (Err r) = refused r
 
 -- what is written into the answer buffer
 abbrev pub blocks_in : Reply → List Block
@@ -59,16 +57,16 @@ pub record BlocksPromise (os : List ℕ) (s s' : Slices) (out out' : List Block)
 -- ── one block at a time ──
 
 -- what is answered: so many blocks, or a refusal
-abbrev pub answer_to : Reply → Blocked
-answer_to (refused r) = Refused r
-answer_to (scored s) = Are 0
-answer_to (changed s r) = Are 0
-answer_to (counted s k) = Are 0
-answer_to (lined_up l) = Are 0
-answer_to (cycled l) = Are 0
-answer_to (started l) = Are 0
-answer_to (blocked l) = Are (length l)
-answer_to (rerouted l q f) = Are 0
+abbrev pub answer_to : Reply → Result ℕ Refusal
+answer_to (refused r) = Err r
+answer_to (scored s) = Ok 0
+answer_to (changed s r) = Ok 0
+answer_to (counted s k) = Ok 0
+answer_to (lined_up l) = Ok 0
+answer_to (cycled l) = Ok 0
+answer_to (started l) = Ok 0
+answer_to (blocked l) = Ok (length l)
+answer_to (rerouted l q f) = Ok 0
 
 -- from the spot on, the search leads to the blocks bs
 pub record Leads (os : List ℕ) (s : Slices) (f : Found) (at : Spot) (bs : List Block) : Type 0 where
@@ -78,19 +76,18 @@ pub record Leads (os : List ℕ) (s : Slices) (f : Found) (at : Spot) (bs : List
   pub is : ahead_of plan f.crit os at ≡ bs
 
 -- the rules' blocks in the state t are to be found, if they are no more than `room`; the slices stay
-pub record SearchDecided (t : State) (os : List ℕ) (room : ℕ) (s : Slices) (f : Found) : Type 0 where
-  pub answer : f.answer ≡ answer_to (reply t (call_of (to_blocks os room) s))
-  pub count : f.count ≡ length (blocks_in (reply t (call_of (to_blocks os room) s)))
-  pub leads : 0 < f.count → Leads os s f f.spot (blocks_in (reply t (call_of (to_blocks os room) s)))
+pub record SearchDecided (t : State) (os : List ℕ) (room : ℕ) (s : Slices) (r : Result Found Refusal) : Type 0 where
+  pub answer : tally r ≡ answer_to (reply t (call_of (to_blocks os room) s))
+  pub count : IfOk r (λ f. f.count ≡ length (blocks_in (reply t (call_of (to_blocks os room) s))))
+  pub leads : IfOk r (λ f. 0 < f.count → Leads os s f f.spot (blocks_in (reply t (call_of (to_blocks os room) s))))
   pub leaves : s ≡ after t (call_of (to_blocks os room) s) s
 
 -- of every state that the store stands for, and of any contents: what lengths and header refuse is refused, else 10 alone
-pub record SearchPromise (os : List ℕ) (room : ℕ) (s : Slices) (f : Found) : Type 0 where
-  pub decides : (t : State) → StandsFor s t → SearchDecided t os room s f
-  pub first : (k : Refusal) → open_of (lent_of s) s.base ≡ Unopened k → f.answer ≡ Refused k
-  pub later : (c : Counts) → open_of (lent_of s) s.base ≡ Is c → (k : Refusal) → f.answer ≡ Refused k → k ≡ ShortAnswer
-  pub none : (k : Refusal) → f.answer ≡ Refused k → f.count ≡ 0
-  pub few : f.count ≤ room
+pub record SearchPromise (os : List ℕ) (room : ℕ) (s : Slices) (r : Result Found Refusal) : Type 0 where
+  pub decides : (t : State) → StandsFor s t → SearchDecided t os room s r
+  pub first : (k : Refusal) → open_of (lent_of s) s.base ≡ Unopened k → r ≡ Err k
+  pub later : (c : Counts) → open_of (lent_of s) s.base ≡ Is c → IfErr r (λ k. k ≡ ShortAnswer)
+  pub few : IfOk r (λ f. f.count ≤ room)
 
 -- the next of the blocks that the search leads to (a record of zeros where there is none), and then to the others
 pub record NextPromise (os : List ℕ) (s : Slices) (f : Found) (at r : Spot) : Type 0 where

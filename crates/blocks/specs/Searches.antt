@@ -1,5 +1,5 @@
 -- The search in a plan without a cycle. Assumes nothing.
-use Rattle.std.specs.Prelude.{◌≡◌, ℕ, ◌<◌, ◌≤◌, false, List, length, replicate}
+use Rattle.std.specs.Prelude.{◌≡◌, ℕ, ◌<◌, ◌≤◌, false, Result, Ok, Err, IfOk, IfErr, List, length}
 use Rattle.rules.specs.declared.Block.{Block}
 use Rattle.rules.specs.declared.Refusal.{Refusal}
 use Rattle.rules.specs.declared.Refusal.TheVariants.{ShortAnswer}
@@ -12,9 +12,7 @@ use Rattle.graphs.specs.Graph.{live}
 use Rattle.routes.specs.Desks.{Desked, edges_of, routes_of}
 use Rattle.times.specs.Words.{span_words, start_of}
 use Rattle.blocks.specs.Arcs.{sight}
-use Rattle.blocks.specs.Overs.{ahead, begun, fitting}
-use Rattle.blocks.specs.declared.blocks.Blocked.{Blocked}
-use Rattle.blocks.specs.declared.blocks.Blocked.TheVariants.{Are, Refused}
+use Rattle.blocks.specs.Overs.{ahead, fitting}
 use Rattle.blocks.specs.declared.blocks.Found.{Found}
 use Rattle.blocks.specs.declared.blocks.Spot.{Spot}
 
@@ -33,22 +31,22 @@ unfoldable pub ahead_of : Plan → List ℕ → List ℕ → Spot → List Block
 ahead_of p c os at =
     ahead (live (edges_of p)) (sight (span_words p.base) (table most_jobs (start_of p)) c p.base.jobs) (routes_of p) p.base.owners os at
 
--- a search that has nothing to find
-abbrev pub nothing_to : Blocked → Found
-nothing_to a = record { crit = replicate most_jobs 0; spot = begun; count = 0; answer = a }
+-- how many blocks a search found, or why it is refused
+abbrev pub tally : Result Found Refusal → Result ℕ Refusal
+tally (Ok f) = Ok f.count
+tally (Err k) = Err k
 
--- what is refused is 10, and then nothing is to be found
-abbrev pub Refuses : Found → Type 0
-Refuses f = (k : Refusal) → f.answer ≡ Refused k → (k ≡ ShortAnswer) × (f.count ≡ 0)
+-- what is refused is 10
+abbrev pub Refuses : Result Found Refusal → Type 0
+Refuses r = IfErr r (λ k. k ≡ ShortAnswer)
 
--- the search of a plan's blocks: 10 if they are more than `room`, and then there are none to find
-pub record Finds (p : Plan) (os : List ℕ) (room : ℕ) (f : Found) : Type 0 where
-  pub answer : f.answer ≡ fitting room (length (blocks p os))
-  pub count : f.answer ≡ Are (length (blocks p os)) → f.count ≡ length (blocks p os)
-  pub leads : 0 < f.count → ahead_of p f.crit os f.spot ≡ blocks p os
+-- the search of a plan's blocks: 10 if they are more than `room`
+pub record Finds (p : Plan) (os : List ℕ) (room : ℕ) (r : Result Found Refusal) : Type 0 where
+  pub answer : tally r ≡ fitting room (length (blocks p os))
+  pub leads : IfOk r (λ f. 0 < f.count → ahead_of p f.crit os f.spot ≡ blocks p os)
 
 -- what `counted` answers
-pub record Counts (e sp st : List ℕ) (top n : ℕ) (l : List ℕ) (all : ℕ) (os : List ℕ) (room : ℕ) (f : Found) : Type 0 where
-  pub few : f.count ≤ room
-  pub refuses : Refuses f
-  pub is : (p : Plan) → Calm e sp st top n l all p → Finds p os room f
+pub record Counts (e sp st : List ℕ) (top n : ℕ) (l : List ℕ) (all : ℕ) (os : List ℕ) (room : ℕ) (r : Result Found Refusal) : Type 0 where
+  pub few : IfOk r (λ f. f.count ≤ room)
+  pub refuses : Refuses r
+  pub is : (p : Plan) → Calm e sp st top n l all p → Finds p os room r

@@ -1,30 +1,24 @@
 // The public calls: the critical blocks of a list of owners, written as records into a lent list, or found one at a time.
-ghost use Rattle.std.specs.Prelude.{◌≡◌, ◌<◌, ◌≤◌, length, slice_set};
+ghost use Rattle.std.specs.Prelude.{◌≡◌, ◌≤◌, length};
 ghost use Rattle.rules.specs.Sizes.{edges_length, most_jobs, routes_length};
 ghost use Rattle.stores.specs.Promise.{slices};
 ghost use Rattle.blocks.specs.Overs.{begun};
-ghost use Rattle.blocks.specs.Searches.{nothing_to, Counts};
+ghost use Rattle.blocks.specs.Searches.{Counts};
 ghost use Rattle.blocks.specs.Promise.{BlocksPromise, SearchPromise, NextPromise, says_blocked};
 
 use crate::critical::critical;
-use crate::owners::{count, step};
+use crate::owners::Asked;
+use crate::runs::Sight;
 use rules::{Block, Plan, Refusal};
-use stores::header::{Header, broad, opened};
+use stores::header::{Header, opened};
 use times::{is_cyclic, makespan};
 
-#[derive(Clone, Copy)]
-pub enum Blocked {
-    Are(usize),
-    Refused(Refusal),
-}
-
-// What a search found: the critical jobs, where to go on from, how many blocks there are, and what is answered.
+// What a search found: the critical jobs, where to go on from, and how many blocks there are.
 #[derive(Clone, Copy)]
 pub struct Found {
     crit: [u8; Plan::JOBS],
     pub spot: Spot,
     pub count: usize,
-    pub answer: Blocked,
 }
 
 // A block, with the place of its owner in the list and the place behind it, where the search goes on.
@@ -51,47 +45,33 @@ pub(crate) fn outset() -> Spot
     }
 }
 
-// There is nothing to find.
-fn nothing(answer: Blocked) -> Found
-    ensures { result ≡ nothing_to answer }
-{
-    let crit = [0u8; Plan::JOBS];
-    Found {
-        crit: crit,
-        spot: outset(),
-        count: 0,
-        answer: answer,
-    }
-}
-
 // The search in a plan without a cycle, if there are no more blocks than `room`.
 fn counted(
-    e: &[u16],
+    asked: Asked,
     spans: &[u64],
     starts: &[u64],
     top: u64,
     n: usize,
-    routes: &[u16],
-    all: u32,
-    owners: &[u32],
     room: usize,
-) -> Found
-    requires { (length e.now ≡ edges_length) × (n ≤ length spans.now) × (n ≤ length starts.now) × (n ≤ most_jobs)
-        × (length routes.now ≡ routes_length) }
-    ensures { Counts e.now spans.now starts.now top n routes.now all
-        owners.now room result }
+) -> Result<Found, Refusal>
+    requires { (n ≤ length spans.now) × (n ≤ length starts.now) × (n ≤ most_jobs) }
+    ensures { Counts asked.entry.edges.now spans.now starts.now top n asked.entry.routes.now asked.entry.all
+        asked.entry.owners.now room result }
 {
     let mut crit = [0u8; Plan::JOBS];
-    critical(e, spans, starts, top, n, &mut crit);
-    match count(e, spans, starts, &crit, n, routes, all, owners, room) {
-        Blocked::Refused(r) => nothing(Blocked::Refused(r)),
-        Blocked::Are(k) => Found {
-            crit: crit,
-            spot: outset(),
-            count: k,
-            answer: Blocked::Are(k),
-        },
-    }
+    critical(asked.edges, spans, starts, top, n, &mut crit);
+    let sight = Sight {
+        spans,
+        starts,
+        crit: &crit,
+        n,
+    };
+    let count = asked.count(sight, room)?;
+    Ok(Found {
+        crit,
+        spot: outset(),
+        count,
+    })
 }
 
 // The search for a list of owners' blocks, in a list that has `room` places.
@@ -103,25 +83,32 @@ pub fn search(
     times: &[u64],
     owners: &[u32],
     room: usize,
-) -> Found
+) -> Result<Found, Refusal>
     ensures { SearchPromise owners.now room
         (slices base.now spans.now edges.now routes.now times.now) result }
 {
     match opened(base, spans.len(), edges.len(), routes.len(), times.len()) {
-        Header::Refused(r) => nothing(Blocked::Refused(r)),
+        Header::Refused(r) => Err(r),
         Header::Is(plan) => {
             if is_cyclic(times) {
-                return nothing(Blocked::Are(0));
+                return Ok(Found {
+                    crit: [0u8; Plan::JOBS],
+                    spot: outset(),
+                    count: 0,
+                });
             }
+            let asked = Asked {
+                edges: &edges[..Plan::EDGES],
+                routes: &routes[..Plan::ROUTES],
+                all: plan.owners,
+                owners,
+            };
             counted(
-                &edges[..Plan::EDGES],
+                asked,
                 &spans[..Plan::SPANS],
                 times::starts(times),
                 makespan(times),
-                broad(plan.jobs),
-                &routes[..Plan::ROUTES],
-                plan.owners,
-                owners,
+                plan.jobs as usize,
                 room,
             )
         }
@@ -146,27 +133,21 @@ pub fn next(
         Header::Refused(_) => outset(),
         Header::Is(plan) => {
             let crit = found.crit;
-            step(
-                &edges[..Plan::EDGES],
-                &spans[..Plan::SPANS],
-                times::starts(times),
-                &crit,
-                broad(plan.jobs),
-                &routes[..Plan::ROUTES],
-                plan.owners,
+            let sight = Sight {
+                spans: &spans[..Plan::SPANS],
+                starts: times::starts(times),
+                crit: &crit,
+                n: plan.jobs as usize,
+            };
+            let asked = Asked {
+                edges: &edges[..Plan::EDGES],
+                routes: &routes[..Plan::ROUTES],
+                all: plan.owners,
                 owners,
-                at,
-            )
+            };
+            asked.step(sight, at)
         }
     }
-}
-
-// A record is written.
-fn put_block(out: &mut [Block], at: usize, b: Block)
-    requires { at < length out.old }
-    ensures { out.new ≡ slice_set out.old at b }
-{
-    out[at] = b;
 }
 
 pub fn blocks(
@@ -177,19 +158,17 @@ pub fn blocks(
     times: &[u64],
     owners: &[u32],
     out: &mut [Block],
-) -> Blocked
+) -> Result<usize, Refusal>
     ensures { BlocksPromise owners.now
         (slices base.now spans.now edges.now routes.now times.now)
         (slices base.now spans.now edges.now routes.now times.now)
         out.old out.new (says_blocked out.new result) }
 {
-    let found = search(base, spans, edges, routes, times, owners, out.len());
+    let found = search(base, spans, edges, routes, times, owners, out.len())?;
     let mut at = found.spot;
-    let mut i: usize = 0;
-    while i < found.count {
+    for i in 0..found.count {
         at = next(base, spans, edges, routes, times, owners, found, at);
-        put_block(out, i, at.block);
-        i = i + 1;
+        out[i] = at.block;
     }
-    found.answer
+    Ok(found.count)
 }

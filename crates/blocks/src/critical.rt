@@ -1,32 +1,19 @@
 // Latest starts, backwards over a line-up, and which jobs are critical.
-ghost use Rattle.std.specs.Prelude.{◌≡◌, ◌-◌, ◌<◌, ◌≤◌, length, ◌==◌};
-ghost use Rattle.rules.specs.Lists.{tick};
+ghost use Rattle.std.specs.Prelude.{◌≡◌, ◌<◌, ◌≤◌, length};
 ghost use Rattle.rules.specs.Sizes.{edges_length, most_jobs};
 ghost use Rattle.blocks.specs.Latests.{lower_of, Late, Latests, Criticals};
 
 use edges::lists::successors;
 use rules::Plan;
 use starts::lineup::line_up;
-use words::wide;
 
 // `low`, or the latest start of job w if that is less. A number that is no job is passed over.
 fn lower(late: &[u64], w: u16, n: usize, low: u64) -> u64
     requires { n ≤ length late.now }
     ensures { result ≡ lower_of late.now n low w }
 {
-    let k = wide(w);
-    if n <= k {
-        return low;
-    }
-    let x = late[k];
-    if x < low { x } else { low }
-}
-
-// What starts by x at the latest, and lasts d.
-fn minus(x: u64, d: u64) -> u64
-    ensures { result ≡ x - d }
-{
-    if x < d { 0 } else { x - d }
+    let k = usize::from(w);
+    if n <= k { low } else { late[k].min(low) }
 }
 
 // The latest start of job v.
@@ -36,22 +23,10 @@ fn latest(e: &[u16], spans: &[u64], late: &[u64], v: usize, n: usize, top: u64) 
 {
     let row = successors(e, v);
     let mut low = top;
-    let mut k: usize = 0;
-    while k < row.len() {
-        low = lower(late, row[k], n, low);
-        k = k + 1;
+    for &w in row {
+        low = lower(late, w, n, low);
     }
-    minus(low, spans[v])
-}
-
-// 1 if the two are one.
-fn flag(a: u64, b: u64) -> u8
-    ensures { result ≡ tick (a == b) 0 }
-{
-    if a == b {
-        return 1;
-    }
-    0
+    low.saturating_sub(spans[v])
 }
 
 // Every latest start from the end of the order, and 1 for each job that starts at its latest.
@@ -69,16 +44,14 @@ fn latests(
         × (n ≤ length late.old) × (n ≤ length crit.old) × (n ≤ most_jobs) }
     ensures { Latests e.now spans.now starts.now order.now n top crit.new }
 {
-    let mut i = n;
-    while 0 < i {
-        i = i - 1;
-        let v = wide(order[i]);
+    for i in (0..n).rev() {
+        let v = usize::from(order[i]);
         if n <= v {
             return;
         }
         let x = latest(e, spans, &late[..], v, n, top);
         late[v] = x;
-        crit[v] = flag(starts[v], x);
+        crit[v] = u8::from(starts[v] == x);
     }
 }
 

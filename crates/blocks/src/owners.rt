@@ -1,13 +1,24 @@
 // The critical blocks of a list of owners, one at a time, and how many there are.
 ghost use Rattle.std.specs.Prelude.{◌≡◌, ◌≤◌, length};
-ghost use Rattle.rules.specs.Sizes.{edges_length, most_entries, most_jobs, routes_length};
-ghost use Rattle.blocks.specs.Arcs.{sight, block_of};
-ghost use Rattle.blocks.specs.Overs.{Rowed, Stepped, Counted};
+ghost use Rattle.rules.specs.Sizes.{edges_length, most_entries, routes_length};
+ghost use Rattle.blocks.specs.Arcs.{block_of};
+ghost use Rattle.blocks.specs.Overs.{Rowed};
 
-use crate::blocks::{Blocked, Spot, outset};
-use crate::runs::{first_critical, run_end};
+use crate::blocks::{Spot, outset};
+use crate::runs::Sight;
 use routes::rows::stops;
 use rules::{Block, Owner, Refusal};
+
+// Where blocks are sought: the edges and the routes of a plan, how many owners it has, and those that are asked for.
+#[derive(Clone, Copy)]
+pub struct Asked<'a> {
+    pub edges: &'a [u16],
+    pub routes: &'a [u16],
+    pub all: u32,
+    pub owners: &'a [u32],
+    pub ghost edged: { length edges.now ≡ edges_length },
+    pub ghost routed: { length routes.now ≡ routes_length },
+}
 
 // The words of an owner's stops; an owner out of range has none.
 fn row_of(routes: &[u16], owner: u32, all: u32) -> &[u16]
@@ -26,87 +37,54 @@ fn made(owner: u32, size: usize, first: usize, last: usize) -> Block
     ensures { result ≡ block_of owner size first last }
 {
     Block {
-        owner: owner,
+        owner,
         first: first as u32,
         last: last as u32,
         length: size as u32,
     }
 }
 
-// The next block, from the spot on. Behind the last one the spot lies beyond the owners.
-pub fn step(
-    e: &[u16],
-    spans: &[u64],
-    starts: &[u64],
-    crit: &[u8],
-    n: usize,
-    routes: &[u16],
-    all: u32,
-    owners: &[u32],
-    at: Spot,
-) -> Spot
-    requires { (length e.now ≡ edges_length) × (n ≤ length spans.now) × (n ≤ length starts.now) × (n ≤ length crit.now)
-        × (n ≤ most_jobs) × (length routes.now ≡ routes_length) }
-    ensures { Stepped e.now (sight spans.now starts.now crit.now n)
-        routes.now all owners.now at result }
-{
-    let mut i = at.owner;
-    let mut p = at.place;
-    while i < owners.len() {
-        let owner = owners[i];
-        let row = row_of(routes, owner, all);
-        let a = first_critical(crit, n, row, p);
-        if a < row.len() {
-            let b = run_end(e, spans, starts, crit, n, row, a);
-            return Spot {
-                block: made(owner, row.len(), a, b),
-                owner: i,
-                place: b + 1,
-            };
-        }
-        i = i + 1;
-        p = 0;
-    }
-    Spot {
-        block: Block {
-            owner: 0,
-            first: 0,
-            last: 0,
-            length: 0,
-        },
-        owner: i,
-        place: 0,
-    }
-}
+impl<'a> Asked<'a> {
+    ghost use Rattle.blocks.specs.Overs.{Stepped, Counted};
+    ghost use Rattle.blocks.specs.Seen.{seen};
 
-// How many blocks there are, if there are no more than `room`.
-pub fn count(
-    e: &[u16],
-    spans: &[u64],
-    starts: &[u64],
-    crit: &[u8],
-    n: usize,
-    routes: &[u16],
-    all: u32,
-    owners: &[u32],
-    room: usize,
-) -> Blocked
-    requires { (length e.now ≡ edges_length) × (n ≤ length spans.now) × (n ≤ length starts.now) × (n ≤ length crit.now)
-        × (n ≤ most_jobs) × (length routes.now ≡ routes_length) }
-    ensures { Counted e.now (sight spans.now starts.now crit.now n)
-        routes.now all owners.now room result }
-{
-    let mut at = outset();
-    let mut k: usize = 0;
-    loop {
-        let found = step(e, spans, starts, crit, n, routes, all, owners, at);
-        if owners.len() <= found.owner {
-            return Blocked::Are(k);
+    // The next block, from the spot on. Behind the last one the spot lies beyond the owners.
+    pub fn step(self, sight: Sight, at: Spot) -> Spot
+        ensures { Stepped self.entry.edges.now (seen sight.entry) self.entry.routes.now self.entry.all
+            self.entry.owners.now at result }
+    {
+        let mut place = at.place;
+        for i in at.owner..self.owners.len() {
+            let owner = self.owners[i];
+            let row = row_of(self.routes, owner, self.all);
+            if let Some(first) = sight.first_critical(row, place) {
+                let last = sight.run_end(self.edges, row, first);
+                return Spot {
+                    block: made(owner, row.len(), first, last),
+                    owner: i,
+                    place: last + 1,
+                };
+            }
+            place = 0;
         }
-        if room <= k {
-            return Blocked::Refused(Refusal::ShortAnswer);
+        Spot {
+            owner: self.owners.len(),
+            ..outset()
         }
-        k = k + 1;
-        at = found;
+    }
+
+    // How many blocks there are, if there are no more than `room`.
+    pub fn count(self, sight: Sight, room: usize) -> Result<usize, Refusal>
+        ensures { Counted self.entry.edges.now (seen sight.entry) self.entry.routes.now self.entry.all
+            self.entry.owners.now room result }
+    {
+        let mut at = outset();
+        for k in 0..=room {
+            at = self.step(sight, at);
+            if self.owners.len() <= at.owner {
+                return Ok(k);
+            }
+        }
+        Err(Refusal::ShortAnswer)
     }
 }

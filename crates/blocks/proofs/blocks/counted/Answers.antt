@@ -1,34 +1,11 @@
-use Rattle.blocks.proofs.Searching.{searching}
+use Rattle.std.proofs.lemmas.Result.{err_from_is_err_and}
+use Rattle.blocks.proofs.Searching.{counted_all, counted_none}
 use Rattle.blocks.proofs.blocks.counted.Goals as goal
 
--- `counted`. Assumes nothing.
+pub returns-in_err-count : goal.returns-in_err-count
+returns-in_err-count c =
+    let p = err_from_is_err_and c.from_residual.result c.from_residual.ensures.1 in
+    rw (p.1, p.2) (counted_none c.count.ensures c.critical.ensures c.in_err-count.was)
 
-pub slice_bounds-critical-end : goal.slice_bounds-critical-end
-slice_bounds-critical-end c = search searching
-
-pub critical-requires : goal.critical-requires
-critical-requires c = search searching
-
-pub slice_bounds-count-end : goal.slice_bounds-count-end
-slice_bounds-count-end c = search searching
-
-pub count-requires : goal.count-requires
-count-requires c = search searching
-
-pub enum_known-r : goal.enum_known-r
-enum_known-r c = search searching
-
-pub nothing-requires : goal.nothing-requires
-nothing-requires c = search searching
-
-pub enum_known-k : goal.enum_known-k
-enum_known-k c = search searching
-
-pub outset-requires : goal.outset-requires
-outset-requires c = search searching
-
-pub returns-in-Refused : goal.returns-in-Refused
-returns-in-Refused c = search searching
-
-pub returns-in-Are : goal.returns-in-Are
-returns-in-Are c = search searching
+pub returns : goal.returns
+returns c = counted_all c.count.ensures c.critical.ensures c.in_ok-count.was c.outset.ensures

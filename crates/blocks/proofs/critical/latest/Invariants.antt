@@ -1,9 +1,7 @@
-use Rattle.std.proofs.Common.{◌≡◌, ◌-◌, length, drop}
+use Rattle.std.proofs.Common.{◌≡◌, drop}
 use Rattle.blocks.proofs.Settling.{lowest}
 use Rattle.blocks.proofs.critical.latest.Given as goal
 
-abbrev pub invariant-loop-k : goal.invariant-loop-k
-invariant-loop-k l = lowest l.late l.n l.low (drop l.k l.row) ≡ lowest l.late l.n l.top l.row
-
-abbrev pub decreases-loop-k : goal.decreases-loop-k
-decreases-loop-k l = length l.row - l.k
+-- what is found is what is left to find
+abbrev pub invariant-loop-w : goal.invariant-loop-w
+invariant-loop-w l = lowest l.late l.n l.low (drop l.w-index l.row) ≡ lowest l.late l.n l.top l.row
