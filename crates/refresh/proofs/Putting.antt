@@ -16,7 +16,7 @@ use Rattle.rules.specs.declared.Report.{Report}
 use Rattle.rules.specs.declared.Refusal.{Refusal}
 use Rattle.rules.specs.declared.Refusal.TheVariants.{NoRoom, BadStore, NoSuchOwner, TooManyEntries}
 use Rattle.rules.specs.Lists.{Pair, table, memb}
-use Rattle.rules.specs.Sizes.{Base, expected_of, is_short, most_entries, most_fixed, most_jobs, most_owners, nobodys, base_length, edges_length, routes_length, spans_length, times_length}
+use Rattle.rules.specs.Sizes.{Base, expected_of, is_short, most_entries, most_fixed, most_jobs, nobodys, base_length, edges_length, routes_length, spans_length, times_length}
 use Rattle.rules.specs.Routes.{Plan, put_plan, in_force}
 use Rattle.rules.specs.Refusals.{Check, first_of, no_owner, too_many, no_room, number_of}
 use Rattle.rules.specs.Scores.{invalid_fixed, score, minus_of}
@@ -25,10 +25,7 @@ use Rattle.rules.specs.Calls.{changed, refused, to_put, refusal, accepted}
 use Rattle.rules.specs.Sound.{Loaded}
 use Rattle.rules.proofs.Ranges.{lt_or_le}
 use Rattle.rules.proofs.Refused.{accepted_step}
-use Rattle.puts.specs.declared.put.Outcome as outcome
-use Rattle.routes.specs.declared.ask.Ask.{Ask}
-use Rattle.routes.specs.declared.ask.Ask.TheVariants.{Fine}
-use Rattle.routes.specs.declared.ask.Ask.TheVariants as asking
+use Rattle.puts.specs.declared.put.Heads.{Heads}
 use Rattle.routes.specs.Asks.{ask_of}
 use Rattle.routes.specs.Snapped.{Stated}
 use Rattle.puts.specs.Puts.{Asked, PutPromised}
@@ -86,7 +83,7 @@ put_base p o l = refl
 
 -- ── the routes and the edges change, and the times follow ──
 
-module _ {base sp e r ts e' r' came came' went went' gone gone' xs : List ℕ} {n o : ℕ} {l : List ℕ} {a : outcome.Outcome}
+module _ {base sp e r ts e' r' came came' went went' gone gone' xs : List ℕ} {n o : ℕ} {l : List ℕ} {a : Result Heads Refusal}
     (P : PutPromised r e xs n o l r' e' came came' went went' gone gone' a) (X : xs ≡ take most_jobs (drop expected_at base)) where
   asked : (p : Plan) → Puts (slices base sp e r ts) n o l p → Asked r e p xs n o
   asked p A = record {
@@ -98,39 +95,43 @@ module _ {base sp e r ts e' r' came came' went went' gone gone' xs : List ℕ} {
   }
 
   -- a store that no calls could have left
-  pub follow_bad : a ≡ outcome.TheVariants.Bad → {s' : Slices} → Follows (slices base sp e r ts) s' n o l (Err BadStore)
+  follow_bad : a ≡ Err BadStore → {s' : Slices} → Follows (slices base sp e r ts) s' n o l (Err BadStore)
   follow_bad q = record {
     done = λ p A h. let D = (P.done p (asked p A) h).answer in never cc;
     full = λ p A h. let D = (P.full p (asked p A) h).0 in never cc;
     stays = λ k e. inl cc;
   }
 
-  pub follow_full : a ≡ outcome.TheVariants.NoRoom → Follows (slices base sp e r ts) (slices base sp e' r' ts) n o l (Err NoRoom)
+  follow_full : a ≡ Err NoRoom → Follows (slices base sp e r ts) (slices base sp e' r' ts) n o l (Err NoRoom)
   follow_full q = record {
     done = λ p A h. let D = (P.done p (asked p A) h).answer in never cc;
     full = λ p A h. let (x, y, z) = P.full p (asked p A) h in (refl, rw (y, z));
     stays = λ k e. inr (cc, let (y, z) = P.stays q in rw (y, z));
   }
 
-  module _ {c w g m : ℕ} {x : Report} {ts' : List ℕ} (q : a ≡ outcome.TheVariants.Done c w g)
-      (R : Refreshes e' sp ts (take c came' ++ (take w went' ++ take g gone')) (take c came') m x ts') (j : m ≡ n) where
-    refreshed : (p : Plan) → Puts (slices base sp e r ts) n o l p → (h : in_force (put_plan p o l).desk.routes ≤ most_entries)
+  pub follow_refused : {k : Refusal} → a ≡ Err k → Follows (slices base sp e r ts) (slices base sp e' r' ts) n o l (Err k)
+  follow_refused {k} q = elim (P.refuses k q) [
+    | inl z ↦ rw z (follow_bad (q ∙ ap Err z))
+    | inr z ↦ rw z (follow_full (q ∙ ap Err z))
+  ]
+
+  module _ {h : Heads} {m : ℕ} {x : Report} {ts' : List ℕ} (q : a ≡ Ok h)
+      (R : Refreshes e' sp ts (take h.came came' ++ (take h.went went' ++ take h.gone gone')) (take h.came came') m x ts') (j : m ≡ n) where
+    refreshed : (p : Plan) → Puts (slices base sp e r ts) n o l p → in_force (put_plan p o l).desk.routes ≤ most_entries
         → Refreshed p o l x ts'
-    refreshed p A h =
-        let D = P.done p (asked p A) h in
+    refreshed p A room =
+        let D = P.done p (asked p A) room in
         let d = D.answer in
-        let k : D.c ≡ c = cc in
-        let i : D.w ≡ w = cc in
-        let f : D.g ≡ g = cc in
+        let k : D.heads ≡ h = cc in
         R.is p o l (record {
           sound = A.worded.desk.sound;
           owner = A.owner;
           few = A.few;
-          room = h;
+          room = room;
           edges = D.desked.edges;
           spans = A.worded.spans;
           jobs = j ∙ A.jobs;
-        }) A.worded.times (rw (k, i, f) at D.queued) (rw k at D.came_queued)
+        }) A.worded.times (rw k at D.queued) (rw k at D.came_queued)
 
     no_full : (p : Plan) → Puts (slices base sp e r ts) n o l p → most_entries < in_force (put_plan p o l).desk.routes → ⊥
     no_full p A h = let d = (P.full p (asked p A) h).0 in never cc
@@ -243,7 +244,7 @@ first_next [] m e = refl
 first_next ((q, true) ∷ l) m e = never cc
 first_next ((q, false) ∷ l) m e = first_next l m e
 
-ask_fine_is : (n o k : ℕ) → Fine ≡ ask_of n o k → (o < n) × (k ≤ most_entries)
+ask_fine_is : (n o k : ℕ) → Ok tt ≡ ask_of n o k → (o < n) × (k ≤ most_entries)
 ask_fine_is n o k e = go (lt_or_le o n) (lt_or_le most_entries k)
   where
     go : (o < n) ⊎ (n ≤ o) → (most_entries < k) ⊎ (k ≤ most_entries) → (o < n) × (k ≤ most_entries)
@@ -251,16 +252,11 @@ ask_fine_is n o k e = go (lt_or_le o n) (lt_or_le most_entries k)
     go (inl x) (inl y) = let q = ask_many n o k refl (rw (lt-ltb o n x)) refl (lt-ltb most_entries k y) in never cc
     go (inr x) y = let q = ask_owner n o k refl (rw (le-ltb o n x)) in never cc
 
-ask_counts : (a b : Bool) → refusal_of (cond a asking.NoSuchOwner (cond b asking.TooManyEntries Fine))
+ask_counts : (a b : Bool) → refusal_of (cond a (Err NoSuchOwner) (cond b (Err TooManyEntries) (Ok tt)))
     ≡ first_of ((NoSuchOwner, a) ∷ (TooManyEntries, b) ∷ [])
 ask_counts true b = refl
 ask_counts false true = refl
 ask_counts false false = refl
-
--- what a put that is not refused so far may hand on
-pub asked_few : (j n o k : ℕ) {a : Ask} → j ≤ most_jobs → n ≤ most_owners → a ≡ ask_of n o k → a ≡ Fine
-    → (j ≤ most_jobs) × (o < most_owners) × (k ≤ most_entries)
-asked_few j n o k i h q e = let (x, y) = ask_fine_is n o k (sym e ∙ q) in (i, omega arith, y)
 
 -- the slices cut to their constants
 abbrev pub cut : Slices → Slices
@@ -294,7 +290,7 @@ module _ (s : Slices) (o : ℕ) (l : List ℕ) {h : Result Counts Refusal} (open
   pub put_closed : {r : Refusal} → h ≡ Err r → Promise (to_put o l) s s [] [] (refused r)
   put_closed = closed_kept (to_put o l) s opens [] refl
 
-  module _ {plan : Counts} (is : h ≡ Ok plan) {a : Ask} (asks : a ≡ ask_of plan.owners o (length l)) where
+  module _ {plan : Counts} (is : h ≡ Ok plan) {a : Result (Unit {0}) Refusal} (asks : a ≡ ask_of plan.owners o (length l)) where
     -- 5, then 6
     asked_first : (p : Plan) → plan ≡ counts_of p.base → refusal_of a ≡ first_of (no_owner p o ∷ too_many l ∷ [])
     asked_first p q = ap refusal_of (asks ∙ ap (λ (c : Counts). ask_of c.owners o (length l)) q) ∙ ask_is p o l
@@ -310,7 +306,7 @@ module _ (s : Slices) (o : ℕ) (l : List ℕ) {h : Result Counts Refusal} (open
         ∙ first_more (no_owner p o ∷ too_many l ∷ []) (no_room p o l ∷ []) r (sym (asked_first p q) ∙ e)))
         (heeds_first (to_put o l) s opens [] (rw is (sym asked_counts ∙ e)))
 
-    module _ (fine : a ≡ Fine) {x : Result Change Refusal} {e r ts : List ℕ}
+    module _ (fine : a ≡ Ok tt) {x : Result Change Refusal} {e r ts : List ℕ}
         (X : Changes (cut s) (slices s.base (take spans_length s.spans) e r ts) plan.jobs o l x) where
       abbrev left : Slices
       left = slices s.base (take spans_length s.spans) e r ts

@@ -5,8 +5,7 @@ ghost use Rattle.rules.specs.Sizes.{base_length, edges_length, most_entries, mos
 ghost use Rattle.stores.specs.Promise.{Promise, slices};
 ghost use Rattle.refresh.specs.Changes.{Follows, Changes, says_changed};
 
-use puts::put::Outcome;
-use routes::ask::{Ask, asked};
+use routes::ask::asked;
 use rules::{Owner, Plan, Refusal, Report, Score};
 use stores::base::expected;
 use stores::header::opened;
@@ -41,7 +40,7 @@ fn follow(
     let mut came = [0u16; Plan::ENTRIES];
     let mut went = [0u16; Plan::ENTRIES];
     let mut gone = [0u16; Plan::ENTRIES];
-    match puts::put::put(
+    let heads = puts::put::put(
         routes,
         edges,
         expected(base),
@@ -51,22 +50,16 @@ fn follow(
         &mut came,
         &mut went,
         &mut gone,
-    ) {
-        Outcome::Bad => Err(Refusal::BadStore),
-        Outcome::NoRoom => Err(Refusal::NoRoom),
-        Outcome::Done(c, w, g) => Ok(refresh(
-            edges,
-            spans,
-            times,
-            &came,
-            c,
-            &went,
-            w,
-            &gone,
-            g,
-            plan.jobs as usize,
-        )),
-    }
+    )?;
+    Ok(refresh(
+        edges,
+        spans,
+        times,
+        &came[..heads.came],
+        &went[..heads.went],
+        &gone[..heads.gone],
+        plan.jobs as usize,
+    ))
 }
 
 // The score before, the change, the score after.
@@ -111,18 +104,15 @@ pub fn put(
         [] [] (says_changed result) }
 {
     let plan = opened(base, spans.len(), edges.len(), routes.len(), times.len())?;
-    match asked(plan, owner, entries.len()) {
-        Ask::NoSuchOwner => Err(Refusal::NoSuchOwner),
-        Ask::TooManyEntries => Err(Refusal::TooManyEntries),
-        Ask::Fine => rescore(
-            base,
-            &spans[..Plan::SPANS],
-            &mut edges[..Plan::EDGES],
-            &mut routes[..Plan::ROUTES],
-            &mut times[..Plan::TIMES],
-            plan,
-            owner,
-            entries,
-        ),
-    }
+    asked(plan, owner, entries.len())?;
+    rescore(
+        base,
+        &spans[..Plan::SPANS],
+        &mut edges[..Plan::EDGES],
+        &mut routes[..Plan::ROUTES],
+        &mut times[..Plan::TIMES],
+        plan,
+        owner,
+        entries,
+    )
 }
