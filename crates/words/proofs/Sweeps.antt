@@ -4,8 +4,10 @@ use native.Mathlib.Nat.{le_of_suc-le-suc, not-suc-le-zero}
 use native.Mathlib.Omega.{arith}
 use native.Mathlib.Numerals.{add-one}
 use mathlib.Core.Path.{◌≡◌, refl, sym, ap, ◌∙◌}
-use mathlib.Core.List.{List, [], ◌∷◌}
-use lib.ListN.{length, get_or, set, length-set}
+use mathlib.Core.List.{List, [], ◌∷◌, ◌++◌, append-nil}
+use lib.ListN.{length, get_or, set, take, drop, length-set, drop_of_length-le}
+use Rattle.std.specs.List.{copy_within}
+use Rattle.std.proofs.lemmas.List.{take_all}
 use Rattle.words.specs.Words.{insert_at, remove_at, swap_remove, map_from}
 
 -- ── insert_at: x at place k of the first i places, what stood from there on one place up ──
@@ -72,47 +74,49 @@ module _ {k x : ℕ} {a₀ a : List ℕ} {i : ℕ} (S : Inserting k x a₀ a i) 
   pub insert_long : length (set a k x) ≡ length a₀
   insert_long = length-set a k x ∙ S.long
 
+-- ── insert_at and remove_at as the library's copy within a list ──
+
+module _ {X : Type 0} where
+  pushed : (n : ℕ) (x : X) (l : List X) → n ≡ length l → take n (x ∷ l) ≡ insert_at 0 x l
+  unfolding insert_at
+  pushed zero x [] e = refl
+  pushed (suc n) x [] e = absurd (omega arith)
+  pushed zero x (y ∷ l) e = absurd (omega arith)
+  pushed (suc n) x (y ∷ l) e = ap (λ (r : List X). x ∷ r) (pushed n y l (omega arith))
+
+  moved_up : (k n : ℕ) (x : X) (a : List X) → k + suc n ≡ length a → set (take (suc k) a ++ take n (drop k a)) k x ≡ insert_at k x a
+  unfolding insert_at
+  moved_up k n x [] e = absurd (omega arith)
+  moved_up zero n x (y ∷ a) e = ap (λ (r : List X). x ∷ r) (pushed n y a (omega arith))
+  moved_up (suc k) n x (y ∷ a) e = ap (λ (r : List X). y ∷ r) (moved_up k n x a (omega arith))
+
+  pub inserted : (k : ℕ) (x : X) (a : List X) → k < length a → set (copy_within a k (length a - 1) (k + 1)) k x ≡ insert_at k x a
+  inserted k x a h =
+      let z : k + 1 + (length a - 1 - k) ≡ length a = omega arith in
+      rw (z, drop_of_length-le a {i = length a} (omega arith), append-nil, add-one) (moved_up k (length a - 1 - k) x a (omega arith))
+
 -- ── remove_at ──
 
-remove_step : (i : ℕ) (a : List ℕ) → suc i < length a → remove_at (suc i) (set a i (get_or a (suc i) 0)) ≡ remove_at i a
+zero_last : (y : ℕ) (l : List ℕ) → set (l ++ drop (length l) (y ∷ l)) (length l) 0 ≡ l ++ 0 ∷ []
+zero_last y [] = refl
+zero_last y (z ∷ l) = ap (λ (r : List ℕ). z ∷ r) (zero_last z l)
+
+moved_down : (k n last : ℕ) (a : List ℕ) → k + n ≡ last → suc last ≡ length a
+    → set ((take k a ++ take n (drop (suc k) a)) ++ drop last a) last 0 ≡ remove_at k a
 unfolding remove_at
-remove_step i [] h = refl
-remove_step zero (y ∷ []) h = absurd (not-suc-le-zero (le_of_suc-le-suc h))
-remove_step zero (y ∷ z ∷ a) h = refl
-remove_step (suc i) (y ∷ a) h = ap (λ (l : List ℕ). y ∷ l) (remove_step i a (le_of_suc-le-suc h))
+moved_down k n last [] p e = absurd (omega arith)
+moved_down zero n last (y ∷ a) p e =
+    let i : n ≡ length a = omega arith in
+    let j : last ≡ length a = omega arith in
+    rw (i, j, take_all (length a) a (omega arith)) (zero_last y a)
+moved_down (suc k) n zero (y ∷ a) p e = absurd (omega arith)
+moved_down (suc k) n (suc last) (y ∷ a) p e = ap (λ (r : List ℕ). y ∷ r) (moved_down k n last a (omega arith) (omega arith))
 
-remove_last : (i : ℕ) (a : List ℕ) → suc i ≡ length a → set a i 0 ≡ remove_at i a
-unfolding remove_at
-remove_last i [] h = refl
-remove_last zero (y ∷ []) h = refl
-remove_last zero (y ∷ z ∷ a) h = absurd (omega arith)
-remove_last (suc i) (y ∷ a) h = ap (λ (l : List ℕ). y ∷ l) (remove_last i a (omega arith))
-
-pub record Removing (k last : ℕ) (a₀ a : List ℕ) (i : ℕ) : Type 0 where
-  pub within : i ≤ last
-  pub ends : suc last ≡ length a₀
-  pub long : length a ≡ length a₀
-  pub left : remove_at i a ≡ remove_at k a₀
-
-pub remove_none : {k : ℕ} (a : List ℕ) → k < length a → Removing k (length a - 1) a a k
-remove_none a h = record { within = omega arith; ends = omega arith; long = refl; left = refl }
-
-module _ {k last : ℕ} {a₀ a : List ℕ} {i : ℕ} (S : Removing k last a₀ a i) where
-  pub remove_next : i < last → Removing k last a₀ (set a i (get_or a (i + 1) 0)) (i + 1)
-  remove_next h = record {
-    within = omega arith;
-    ends = S.ends;
-    long = length-set a i (get_or a (i + 1) 0) ∙ S.long;
-    left = rw (add-one i) (remove_step i a (omega (arith, S.ends, S.long)) ∙ S.left);
-  }
-
-  pub remove_done : last ≤ i → set a last 0 ≡ remove_at k a₀
-  remove_done h =
-      let p : last ≡ i = (let z = S.within in omega arith) in
-      rw p (remove_last i a (omega (arith, S.ends, S.long)) ∙ S.left)
-
-  pub remove_long : length (set a last 0) ≡ length a₀
-  remove_long = length-set a last 0 ∙ S.long
+pub removed : (k : ℕ) (a : List ℕ) → k < length a
+    → set (copy_within a (k + 1) (length a) k) (length a - 1) 0 ≡ remove_at k a
+removed k a h =
+    let z : k + (length a - (k + 1)) ≡ length a - 1 = omega arith in
+    rw (z, add-one) (moved_down k (length a - suc k) (length a - 1) a (omega arith) (omega arith))
 
 pub swap_done : (p t : ℕ) (l : List ℕ) {a : List ℕ} → a ≡ remove_at (t - 1) (set l p (get_or l (t - 1) 0)) → a ≡ swap_remove p t l
 unfolding swap_remove
@@ -145,3 +149,10 @@ module _ {f : ℕ → ℕ} {k : ℕ} {a₀ a : List ℕ} {i : ℕ} (S : Mapping 
 
   pub map_done : length a ≤ i → a ≡ map_from f k a₀
   map_done h = sym (map_past f i a h) ∙ S.left
+
+  -- the same in a loop over the places of a₀
+  pub map_on : {v : ℕ} → v ≡ f (get_or a i 0) → i < length a₀ → Mapping f k a₀ (set a i v) (i + 1)
+  map_on e h = map_next e (omega (arith, S.long))
+
+  pub map_end : length a₀ ≤ i → a ≡ map_from f k a₀
+  map_end h = map_done (omega (arith, S.long))

@@ -1,10 +1,8 @@
 -- What the functions of `words` do to a list of words. Assumes nothing.
-use Rattle.std.specs.Prelude.{ℕ, zero, suc, ◌+◌, ◌-◌, min, cond, List, [], ◌∷◌, ◌++◌, get_or, set, eqb}
-use Rattle.words.specs.declared.Found.{Found}
-use Rattle.words.specs.declared.Found.TheVariants.{At, Nothing}
+use Rattle.std.specs.Prelude.{ℕ, zero, suc, ◌+◌, ◌-◌, min, cond, List, [], ◌∷◌, ◌++◌, Option, Some, None, get_or, set, eqb}
 
 -- x at place k, what stood from there on one place up; the list is as long as it was, so its last element falls off
-unfoldable pub insert_at : ℕ → ℕ → List ℕ → List ℕ
+unfoldable pub insert_at : {X : Type 0} → ℕ → X → List X → List X
 insert_at k x [] = []
 insert_at zero x (y ∷ l) = x ∷ insert_at zero y l
 insert_at (suc k) x (y ∷ l) = y ∷ insert_at k x l
@@ -34,6 +32,6 @@ abbrev pub down : ℕ → ℕ
 down x = x - 1
 
 -- the first place of x in a list whose first element has place `at`
-unfoldable pub find_from : ℕ → ℕ → List ℕ → Found
-find_from x at [] = Nothing
-find_from x at (y ∷ l) = cond (eqb x y) (At at) (find_from x (suc at) l)
+unfoldable pub find_from : ℕ → ℕ → List ℕ → Option ℕ
+find_from x at [] = None
+find_from x at (y ∷ l) = cond (eqb x y) (Some at) (find_from x (suc at) l)

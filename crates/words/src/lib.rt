@@ -10,13 +10,6 @@ ghost use Rattle.words.specs.Words.{insert_at, remove_at, swap_remove, map_from,
 pub mod u32s;
 pub mod u64s;
 
-// What a search finds.
-#[derive(Clone, Copy)]
-pub enum Found {
-    At(usize),
-    Nothing,
-}
-
 // A word as a number of places.
 pub fn wide(x: u16) -> usize
     ensures { result ≡ x }
@@ -24,16 +17,13 @@ pub fn wide(x: u16) -> usize
     x as usize
 }
 
-// Puts x at place k. What stood there and after it moves one up, and the last word falls off.
-pub fn insert_at(a: &mut [u16], k: usize, x: u16)
+// Puts x at place k. What stood there and after it moves one up, and the last element falls off.
+pub fn insert_at<T: Copy>(a: &mut [T], k: usize, x: T)
     requires { k < length a.old }
     ensures { a.new ≡ insert_at k x a.old }
 {
-    let mut i = a.len();
-    while k + 1 < i {
-        i = i - 1;
-        a[i] = a[i - 1];
-    }
+    let last = a.len() - 1;
+    a.copy_within(k..last, k + 1);
     a[k] = x;
 }
 
@@ -43,11 +33,7 @@ fn remove_at(a: &mut [u16], k: usize)
     ensures { a.new ≡ remove_at k a.old }
 {
     let last = a.len() - 1;
-    let mut i = k;
-    while i < last {
-        a[i] = a[i + 1];
-        i = i + 1;
-    }
+    a.copy_within(k + 1.., k);
     a[last] = 0;
 }
 
@@ -61,55 +47,31 @@ pub fn swap_remove(a: &mut [u16], p: usize, t: usize)
     remove_at(a, last);
 }
 
-// One more, and the largest number stays.
-fn one_up(x: u16) -> u16
-    ensures { result ≡ up x }
-{
-    if x < 65535 { x + 1 } else { x }
-}
-
-// One less, and 0 stays.
-fn one_down(x: u16) -> u16
-    ensures { result ≡ down x }
-{
-    if 0 < x { x - 1 } else { x }
-}
-
-// One more at each place from k on.
+// One more at each place from k on; the largest number stays.
 pub fn up_from(a: &mut [u16], k: usize)
     ensures { a.new ≡ map_from up k a.old }
 {
-    let mut i = k;
-    while i < a.len() {
-        a[i] = one_up(a[i]);
-        i = i + 1;
+    for i in k..a.len() {
+        a[i] = a[i].saturating_add(1);
     }
 }
 
-// One less at each place from k on.
+// One less at each place from k on; 0 stays.
 pub fn down_from(a: &mut [u16], k: usize)
     ensures { a.new ≡ map_from down k a.old }
 {
-    let mut i = k;
-    while i < a.len() {
-        a[i] = one_down(a[i]);
-        i = i + 1;
+    for i in k..a.len() {
+        a[i] = a[i].saturating_sub(1);
     }
 }
 
 // The first place from `from` up to, not including, `to` that holds x.
-pub fn find(a: &[u16], from: usize, to: usize, x: u16) -> Found
+pub fn find(a: &[u16], from: usize, to: usize, x: u16) -> Option<usize>
     requires { (from ≤ to) × (to ≤ length a.now) }
     ensures { result ≡ find_from x from (slice from to a.now) }
 {
-    let mut i = from;
-    while i < to {
-        if a[i] == x {
-            return Found::At(i);
-        }
-        i = i + 1;
-    }
-    Found::Nothing
+    let k = a[from..to].iter().position(|y| *y == x)?;
+    Some(from + k)
 }
 
 // The k words of s from `from` on, written at `at`.
@@ -147,9 +109,7 @@ pub fn widen(a: &mut [u32], at: usize, s: &[u16], k: usize)
     requires { (at + k ≤ length a.old) × (k ≤ length s.now) }
     ensures { a.new ≡ sets a.old at (take k s.now) }
 {
-    let mut i: usize = 0;
-    while i < k {
-        a[at + i] = s[i] as u32;
-        i += 1;
+    for (i, x) in s[..k].iter().enumerate() {
+        a[at + i] = u32::from(*x);
     }
 }

@@ -1,11 +1,6 @@
-use Prim.Native.Nat.{◌-◌}
-use lib.ListN.{length}
 use Rattle.words.specs.Words.{down}
 use Rattle.words.proofs.Sweeps.{Mapping}
 use Rattle.words.proofs.down_from.Given as goal
 
 abbrev pub invariant-loop-i : goal.invariant-loop-i
 invariant-loop-i l = Mapping down l.k l.initial.a l.a l.i
-
-abbrev pub decreases-loop-i : goal.decreases-loop-i
-decreases-loop-i l = length l.initial.a - l.i

@@ -1,10 +1,6 @@
-use Prim.Native.Nat.{◌-◌}
 use lib.ListN.{take}
 use Rattle.words.proofs.Writes.{Copying}
 use Rattle.words.proofs.widen.Given as goal
 
 abbrev pub invariant-loop-i : goal.invariant-loop-i
 invariant-loop-i l = Copying l.initial.a l.at (take l.k l.s) l.a l.i
-
-abbrev pub decreases-loop-i : goal.decreases-loop-i
-decreases-loop-i l = l.k - l.i
