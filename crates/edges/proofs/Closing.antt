@@ -1,11 +1,10 @@
 -- The starts of the rows over a draft, and where the first edge to each job goes: what the predecessors are written from. Assumes nothing.
-use Prim.Native.Nat.{ℕ, zero, suc, ◌+◌, ◌≤◌}
+use Prim.Native.Nat.{ℕ, ◌≤◌}
 use mathlib.Core.Path.{◌≡◌, sym, ap, ◌∙◌}
-use mathlib.Core.List.{List, [], ◌∷◌, ◌++◌}
+use mathlib.Core.List.{List, ◌++◌}
 use native.Mathlib.Omega.{arith}
-use native.Mathlib.Nat.{suc-add, zero-add}
 use lib.ListN.{take, drop}
-use lib.Seq.{sets, slice, take-nil, take-take, length-take-le}
+use lib.Seq.{take-take}
 use Rattle.rules.specs.Lists.{Pair}
 use Rattle.rules.specs.Sizes.{most_jobs}
 use Rattle.edges.specs.Layout.{most_edges, starts_length, tail_starts_at}
@@ -14,8 +13,8 @@ use Rattle.edges.specs.Edges.{Model, Wf, head_starts, head_words, count_words, t
 use Rattle.edges.specs.Drafting.{Draft, Scattered, Turnable, Turned, Turning, running, sum}
 use Rattle.edges.proofs.Tabs.{Five, at_po, at_so, new_po, new_so}
 use Rattle.edges.proofs.Store.{po_long, so_long}
-use Rattle.edges.proofs.Drafts.{five, ins_long}
-use Rattle.edges.proofs.Sums.{running_offs, sets_whole, sum_flat}
+use Rattle.edges.proofs.Drafts.{five}
+use Rattle.edges.proofs.Sums.{running_offs, sum_flat}
 
 -- e with a in place of the starts of the rows of heads, and with b in place of those of tails
 abbrev first : List ℕ → List ℕ → List ℕ
@@ -23,11 +22,6 @@ first e a = a ++ drop starts_length e
 
 abbrev second : List ℕ → List ℕ → List ℕ
 second e b = take tail_starts_at e ++ (b ++ drop starts_length (drop tail_starts_at e))
-
-slice_part : {A : Type 0} (a k : ℕ) (l : List A) → drop a (take (a + k) l) ≡ take k (drop a l)
-slice_part zero k l = rw zero-add
-slice_part {A} (suc a) k [] = rw (take-nil {A = A} (suc a + k), take-nil {A = A} k)
-slice_part (suc a) k (x ∷ l) = rw suc-add (slice_part a k l)
 
 module _ {m : Model} {l : List Pair} {e tails out ins : List ℕ} {t : ℕ} (D : Draft m l e tails out ins t) where
   wf : Wf m
@@ -57,20 +51,18 @@ module _ {m : Model} {l : List Pair} {e tails out ins : List ℕ} {t : ℕ} (D :
           (eb ∙ ap (running 0) D.in_degrees ∙ running_offs 0 m.pred))
           (po_long m wf)
 
-      starts : slice tail_starts_at (tail_starts_at + most_jobs) (second (first e a) b) ≡ take most_jobs (tail_starts m)
+      starts : take most_jobs (drop tail_starts_at (second (first e a) b)) ≡ take most_jobs (tail_starts m)
       starts =
-          slice_part tail_starts_at most_jobs (second (first e a) b)
-          ∙ sym (take-take most_jobs starts_length (drop tail_starts_at (second (first e a) b)) (omega arith))
+          sym (take-take most_jobs starts_length (drop tail_starts_at (second (first e a) b)) (omega arith))
           ∙ ap (take most_jobs) (at_po five_second).read
 
-      turning : {next : List ℕ} → next ≡ sets ins 0 (slice tail_starts_at (tail_starts_at + most_jobs) (second (first e a) b))
+      turning : {next : List ℕ} → next ≡ take most_jobs (drop tail_starts_at (second (first e a) b))
           → Turning m l (second (first e a) b) tails next t
       turning en = record {
         order = D.order;
         words = five_second.words;
         from = D.from;
-        starts = en ∙ ap (sets ins 0) starts ∙ sets_whole ins (take most_jobs (tail_starts m))
-            (length-take-le most_jobs (tail_starts m) (omega (arith, po_long m wf)) ∙ sym (ins_long D));
+        starts = en ∙ starts;
         total = D.total;
       }
 
@@ -78,7 +70,7 @@ module _ {m : Model} {l : List Pair} {e tails out ins : List ℕ} {t : ℕ} (D :
 
 module _ {m : Model} {l : List Pair} {e tails out ins : List ℕ} {t : ℕ} (D : Draft m l e tails out ins t) {a b next : List ℕ}
     (ea : a ≡ running 0 out) (eb : b ≡ running 0 ins)
-    (en : next ≡ sets ins 0 (slice tail_starts_at (tail_starts_at + most_jobs) (second (first e a) b))) where
+    (en : next ≡ take most_jobs (drop tail_starts_at (second (first e a) b))) where
   pub turnable : Turnable (second (first e a) b) tails next t
   turnable = record { model = m; list = l; turning = turning D ea eb en }
 

@@ -18,8 +18,7 @@ use Rattle.rules.specs.Sizes.{edges_length, most_jobs}
 use Rattle.rules.proofs.Tabled.{table_at, table_same, table_set}
 use Rattle.rules.proofs.Ranges.{same}
 use Rattle.words.specs.Words.{find_from}
-use Rattle.words.specs.declared.Found.{Found}
-use Rattle.words.specs.declared.Found.TheVariants.{At, Nothing}
+use Rattle.std.specs.Prelude.{Option, Some, None}
 use Rattle.edges.specs.Layout.{counts_at, heads_at, most_edges, starts_length}
 use Rattle.edges.specs.Rows.{flat, offs, pad, zeros}
 use Rattle.edges.specs.Edges.{Edge, Model, Wf, add_edge, count_of, has_edge, head_starts, head_words, count_words, times_of, to_of}
@@ -164,7 +163,7 @@ module _ {m : Model} {l : List Pair} {e tails out ins : List ℕ} {t : ℕ} (D :
     within = omega (arith, degree u, row_ends, rows.offs_next 0 m.succ u is_row)
 
     -- a search from f to t is one in the row
-    module _ (f : ℕ) (start : f ≡ t - get_or out u 0) (g : Found) (q : g ≡ find_from v f (slice f t (take most_edges (drop heads_at e)))) where
+    module _ (f : ℕ) (start : f ≡ t - get_or out u 0) (g : Option ℕ) (q : g ≡ find_from v f (slice f t (take most_edges (drop heads_at e)))) where
       row_starts : f ≡ get_or (head_starts m) u 0
       row_starts = omega (arith, degree u, row_ends, rows.offs_next 0 m.succ u is_row)
 
@@ -173,7 +172,7 @@ module _ {m : Model} {l : List Pair} {e tails out ins : List ℕ} {t : ℕ} (D :
           sym (q ∙ ap (λ (x : List ℕ). find_from v f (slice f t x)) (at_st five).read
           ∙ ap (find_from v f) (rows.row_slice to_of most_edges m.succ u is_row f t row_starts row_ends))
 
-      module _ (p : ℕ) (z : g ≡ At p) where
+      module _ (p : ℕ) (z : g ≡ Some p) where
         k : Split to_of v (get_or (head_starts m) u 0) row p
         k = rw row_starts at (split to_of v f p row (found ∙ z))
 
@@ -203,7 +202,7 @@ module _ {m : Model} {l : List Pair} {e tails out ins : List ℕ} {t : ℕ} (D :
               total = D.total;
             })
 
-      module _ (z : g ≡ Nothing) where
+      module _ (z : g ≡ None) where
         new : has_edge m u v ≡ false
         unfolding has_edge
         new = none to_of v f row (found ∙ z)
@@ -269,7 +268,7 @@ spacious {m} {l} {e} {tails} {out} {ins} {t} {u} {v} D last room hu hv =
     }
 
 -- what a search from t - d on found, where d is how many lead out of u
-module _ {e tails out ins : List ℕ} {t u v : ℕ} (R : Ready e tails out ins t u v) {d : ℕ} (ed : d ≡ get_or out u 0) {g : Found}
+module _ {e tails out ins : List ℕ} {t u v : ℕ} (R : Ready e tails out ins t u v) {d : ℕ} (ed : d ≡ get_or out u 0) {g : Option ℕ}
     (q : g ≡ find_from v (t - d) (slice (t - d) t (take most_edges (drop heads_at e)))) where
   abbrev S : Spacious e tails out ins t u v
   S = R.space
@@ -277,7 +276,7 @@ module _ {e tails out ins : List ℕ} {t u v : ℕ} (R : Ready e tails out ins t
   begins : t - d ≡ t - get_or out u 0
   begins = ap (λ (x : ℕ). t - x) ed
 
-  module _ {p : ℕ} (z : g ≡ At p) where
+  module _ {p : ℕ} (z : g ≡ Some p) where
     pub seen_low : p < most_edges
     seen_low = hit_low R.draft u v S.from S.to R.last S.room (t - d) begins g q p z
 
@@ -292,7 +291,7 @@ module _ {e tails out ins : List ℕ} {t u v : ℕ} (R : Ready e tails out ins t
         is = λ m l D last. rw (w, en) (hit D u v S.from S.to last S.room (t - d) begins g q p z);
       }
 
-  pub comes : g ≡ Nothing → {e' tails' out' ins' : List ℕ} → Appended e tails out ins t u v e' tails' out' ins'
+  pub comes : g ≡ None → {e' tails' out' ins' : List ℕ} → Appended e tails out ins t u v e' tails' out' ins'
       → Joined e tails out ins t u v e' tails' out' ins' (t + 1)
   comes z A = record {
     is = λ m l D last.

@@ -9,7 +9,6 @@ ghost use Rattle.edges.specs.Drafting.{Turnable, Turned, running, sum};
 
 use crate::{COUNTS, HEADS, ROOM, STARTS, TAIL_STARTS, TAILS, retime, times};
 use rules::Plan;
-use words::{Found, wide};
 
 // One more at place i.
 fn raise(a: &mut [u16], i: usize)
@@ -54,14 +53,14 @@ fn join(
     ensures { Joined e.old tails.old out.old ins.old t u v
         e.new tails.new out.new ins.new result }
 {
-    let d = wide(out[u]);
+    let d = usize::from(out[u]);
     match words::find(&e[HEADS..HEADS + ROOM], t - d, t, v as u16) {
-        Found::At(p) => {
+        Some(p) => {
             let n = times(&e[..], p);
             retime(e, p, n + 1);
             t
         }
-        Found::Nothing => {
+        None => {
             push(e, tails, out, ins, t, u, v);
             t + 1
         }
@@ -114,7 +113,7 @@ fn head(e: &[u16], i: usize) -> usize
     requires { (length e.now ≡ edges_length) × (i < most_edges) }
     ensures { result ≡ get_or e.now (heads_at + i) 0 }
 {
-    wide(e[HEADS + i])
+    usize::from(e[HEADS + i])
 }
 
 // The tail u at place p.
@@ -133,7 +132,7 @@ fn scatter(e: &mut [u16], tails: &[u16], next: &mut [u16], t: usize)
     let mut i: usize = 0;
     while i < t {
         let v = head(&e[..], i);
-        let p = wide(next[v]);
+        let p = usize::from(next[v]);
         tail(e, p, tails[i]);
         raise(next, v);
         i += 1;
@@ -147,7 +146,7 @@ fn turn(e: &mut [u16], tails: &[u16], out: &[u16], ins: &mut [u16], t: usize)
 {
     sums(&mut e[0..STARTS], out);
     sums(&mut e[TAIL_STARTS..TAILS], &ins[..]);
-    words::copy(ins, 0, &e[..], TAIL_STARTS, Plan::JOBS);
+    ins.copy_from_slice(&e[TAIL_STARTS..TAIL_STARTS + Plan::JOBS]);
     scatter(e, tails, ins, t);
 }
 

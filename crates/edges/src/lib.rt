@@ -1,5 +1,5 @@
-// Layer 1: the edges between the jobs, with a count each, in one lent slice of five tables. Words that make no sense are answered by `Bad`
-// where a table would be written, and by nothing where one is read.
+// Layer 1: the edges between the jobs, with a count each, in one lent slice of five tables. Words that make no sense are an error
+// where a table would be written, and nothing where one is read.
 #![tactic(auto)]
 
 pub mod fixed;
@@ -12,9 +12,8 @@ ghost use Rattle.edges.specs.Layout.{counts_at, most_edges, starts_length};
 ghost use Rattle.edges.specs.Raw.{Placed, ins_in, up_in, appear_in, out_in, down_in, vanish_in};
 ghost use Rattle.edges.specs.Edges.{Counts, Adds, Removes};
 
-use rules::{Job, Plan};
-use spans::{Row, ends};
-use words::{Found, wide};
+use rules::{Job, Plan, Senseless};
+use spans::ends;
 
 // How many edges there is room for.
 const ROOM: usize = 4096;
@@ -34,7 +33,6 @@ const TAILS: usize = TAIL_STARTS + STARTS;
 pub enum Added {
     Appeared,
     Counted,
-    Bad,
 }
 
 #[derive(Clone, Copy)]
@@ -42,7 +40,6 @@ pub enum Removed {
     Vanished,
     Lessened,
     Absent,
-    Bad,
 }
 
 // Where a number stands in a row that ends at the second place, or, where it does not stand there, the end.
@@ -50,20 +47,17 @@ pub enum Removed {
 enum Place {
     At(usize, usize),
     Nowhere(usize),
-    Bad,
 }
 
 // Looks x up in row i of the rows whose starts lie at o and whose elements lie at a.
-fn look(e: &[u16], o: usize, a: usize, i: usize, x: usize) -> Place
+fn look(e: &[u16], o: usize, a: usize, i: usize, x: usize) -> Result<Place, Senseless>
     requires { (o + starts_length ≤ length e.now) × (a + most_edges ≤ length e.now) × (i < most_jobs) × (x < most_jobs) }
     ensures { Placed o a i x e.now result }
 {
-    match ends(e, o, i) {
-        Row::Bad => Place::Bad,
-        Row::Is(f, t) => match words::find(&e[a..a + ROOM], f, t, x as u16) {
-            Found::At(p) => Place::At(p, t),
-            Found::Nothing => Place::Nowhere(t),
-        },
+    let (f, t) = ends(e, o, i)?;
+    match words::find(&e[a..a + ROOM], f, t, x as u16) {
+        Some(p) => Ok(Place::At(p, t)),
+        None => Ok(Place::Nowhere(t)),
     }
 }
 
@@ -89,9 +83,9 @@ pub fn count(e: &[u16], from: Job, to: Job) -> u16
     ensures { Counts e.now from.0 to.0 result }
 {
     match look(e, 0, HEADS, from.0 as usize, to.0 as usize) {
-        Place::At(p, _) => times(e, p),
-        Place::Nowhere(_) => 0,
-        Place::Bad => 0,
+        Ok(Place::At(p, _)) => times(e, p),
+        Ok(Place::Nowhere(_)) => 0,
+        Err(Senseless) => 0,
     }
 }
 
@@ -124,36 +118,29 @@ fn appear(e: &mut [u16], i: usize, j: usize, w: usize, t: usize, q: usize)
 }
 
 // One more edge from `from` to `to`.
-pub fn add(e: &mut [u16], from: Job, to: Job) -> Added
+pub fn add(e: &mut [u16], from: Job, to: Job) -> Result<Added, Senseless>
     requires { (length e.old ≡ edges_length) × (from.0 < most_jobs) × (to.0 < most_jobs) }
     ensures { Adds e.old from.0 to.0 e.new result }
 {
     let i = from.0 as usize;
     let j = to.0 as usize;
-    match look(&e[..], 0, HEADS, i, j) {
-        Place::Bad => Added::Bad,
+    match look(&e[..], 0, HEADS, i, j)? {
         Place::At(p, _) => {
             let n = times(&e[..], p);
-            if n == 65535 {
-                return Added::Bad;
+            if n == u16::MAX {
+                return Err(Senseless);
             }
             retime(e, p, n + 1);
-            Added::Counted
+            Ok(Added::Counted)
         }
         Place::Nowhere(t) => {
-            let n = wide(e[Plan::JOBS]);
-            let q = wide(e[TAIL_STARTS + j + 1]);
-            if ROOM <= n {
-                return Added::Bad;
-            }
-            if n < t {
-                return Added::Bad;
-            }
-            if n < q {
-                return Added::Bad;
+            let n = usize::from(e[Plan::JOBS]);
+            let q = usize::from(e[TAIL_STARTS + j + 1]);
+            if ROOM <= n || n < t || n < q {
+                return Err(Senseless);
             }
             appear(e, i, j, n + 1, t, q);
-            Added::Appeared
+            Ok(Added::Appeared)
         }
     }
 }
@@ -187,39 +174,29 @@ fn vanish(e: &mut [u16], i: usize, j: usize, w: usize, p: usize, t: usize, s: us
 }
 
 // One edge less from `from` to `to`.
-pub fn remove(e: &mut [u16], from: Job, to: Job) -> Removed
+pub fn remove(e: &mut [u16], from: Job, to: Job) -> Result<Removed, Senseless>
     requires { (length e.old ≡ edges_length) × (from.0 < most_jobs) × (to.0 < most_jobs) }
     ensures { Removes e.old from.0 to.0 e.new result }
 {
     let i = from.0 as usize;
     let j = to.0 as usize;
-    match look(&e[..], 0, HEADS, i, j) {
-        Place::Bad => Removed::Bad,
-        Place::Nowhere(_) => Removed::Absent,
+    match look(&e[..], 0, HEADS, i, j)? {
+        Place::Nowhere(_) => Ok(Removed::Absent),
         Place::At(p, t) => {
             let n = times(&e[..], p);
             if 1 < n {
                 retime(e, p, n - 1);
-                return Removed::Lessened;
+                return Ok(Removed::Lessened);
             }
-            match look(&e[..], TAIL_STARTS, TAILS, j, i) {
-                Place::Bad => Removed::Bad,
-                Place::Nowhere(_) => Removed::Bad,
-                Place::At(s, v) => {
-                    let w = wide(e[Plan::JOBS]);
-                    if ROOM < w {
-                        return Removed::Bad;
-                    }
-                    if w < t {
-                        return Removed::Bad;
-                    }
-                    if w < v {
-                        return Removed::Bad;
-                    }
-                    vanish(e, i, j, w, p, t, s, v);
-                    Removed::Vanished
-                }
+            let Place::At(s, v) = look(&e[..], TAIL_STARTS, TAILS, j, i)? else {
+                return Err(Senseless);
+            };
+            let w = usize::from(e[Plan::JOBS]);
+            if ROOM < w || w < t || w < v {
+                return Err(Senseless);
             }
+            vanish(e, i, j, w, p, t, s, v);
+            Ok(Removed::Vanished)
         }
     }
 }

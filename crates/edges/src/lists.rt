@@ -4,9 +4,9 @@ ghost use Rattle.rules.specs.Sizes.{edges_length};
 ghost use Rattle.edges.specs.Layout.{most_edges, starts_length};
 ghost use Rattle.edges.specs.Lists.{Rowed, Successors, Predecessors};
 
-use crate::{HEADS, ROOM, TAIL_STARTS, TAILS};
-use rules::Plan;
-use words::wide;
+use crate::spans::ends;
+use crate::{HEADS, TAIL_STARTS, TAILS};
+use rules::{Plan, Senseless};
 
 // Row i of the rows whose starts lie at o and whose elements lie at a.
 fn row(e: &[u16], o: usize, a: usize, i: usize) -> &[u16]
@@ -14,18 +14,12 @@ fn row(e: &[u16], o: usize, a: usize, i: usize) -> &[u16]
     ensures { Rowed o a i e.now result.now }
 {
     if Plan::JOBS <= i {
-        return &e[..0];
+        return &[];
     }
-    let k = o + i;
-    let f = wide(e[k]);
-    let t = wide(e[k + 1]);
-    if t < f {
-        return &e[..0];
+    match ends(e, o, i) {
+        Ok((f, t)) => &e[a + f..a + t],
+        Err(Senseless) => &[],
     }
-    if ROOM < t {
-        return &e[..0];
-    }
-    &e[a + f..a + t]
 }
 
 // The jobs that job u has an edge to, in stored order.

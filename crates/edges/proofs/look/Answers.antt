@@ -1,14 +1,10 @@
-use Rattle.edges.proofs.Seen.{look_bad, look_fits, look_here, look_nowhere, look_ordered}
+use Rattle.edges.proofs.Seen.{look_here, look_nowhere}
 use Rattle.edges.proofs.look.Goals as goal
 
-pub find-requires : goal.find-requires
-find-requires c = search (look_ordered, look_fits)
+pub returns-in-Some : goal.returns-in-Some
+returns-in-Some c =
+    look_here c.args.o c.args.a c.args.i c.args.x c.args.e.now c.in_ok-f.was c.ends.ensures c.in-Some.is c.find.ensures c.requires.1
 
-pub returns-in-Bad : goal.returns-in-Bad
-returns-in-Bad c = search look_bad
-
-pub returns-in-At : goal.returns-in-At
-returns-in-At c = search look_here
-
-pub returns-in-Nothing : goal.returns-in-Nothing
-returns-in-Nothing c = search look_nowhere
+pub returns-in-None : goal.returns-in-None
+returns-in-None c =
+    look_nowhere c.args.o c.args.a c.args.i c.args.x c.args.e.now c.in_ok-f.was c.ends.ensures c.in-None.is c.find.ensures

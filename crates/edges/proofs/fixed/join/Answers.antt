@@ -11,8 +11,8 @@ overflow_add-n c = search seen_fits
 pub retime-requires : goal.retime-requires
 retime-requires c = search (rules, seen_low)
 
-pub returns-in-At : goal.returns-in-At
-returns-in-At c = search counts_more
+pub returns-in-Some : goal.returns-in-Some
+returns-in-Some c = search counts_more
 
-pub returns-in-Nothing : goal.returns-in-Nothing
-returns-in-Nothing c = search comes
+pub returns-in-None : goal.returns-in-None
+returns-in-None c = search comes

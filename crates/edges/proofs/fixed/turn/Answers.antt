@@ -10,8 +10,8 @@ sums-requires-2 c = (search rules, search ins_fits)
 
 pub scatter-requires : goal.scatter-requires
 scatter-requires c =
-    turnable c.requires.draft c.sums.ensures c.sums-2.ensures c.copy.ensures
+    turnable c.requires.draft c.sums.ensures c.sums-2.ensures c.copy_from_slice.ensures.after
 
 pub returns : goal.returns
 returns c =
-    turned c.requires.draft c.sums.ensures c.sums-2.ensures c.copy.ensures c.scatter.ensures
+    turned c.requires.draft c.sums.ensures c.sums-2.ensures c.copy_from_slice.ensures.after c.scatter.ensures

@@ -1,14 +1,7 @@
-use Rattle.edges.proofs.Listing.{row_beyond, row_falling, row_out, row_there}
+use Rattle.edges.proofs.Listing.{row_there}
 use Rattle.edges.proofs.lists.row.Goals as goal
 
-pub returns-then-i-ge-JOBS : goal.returns-then-i-ge-JOBS
-returns-then-i-ge-JOBS c = search row_out
-
-pub returns-then-t-f : goal.returns-then-t-f
-returns-then-t-f c = search row_falling
-
-pub returns-then-t-gt-ROOM : goal.returns-then-t-gt-ROOM
-returns-then-t-gt-ROOM c = search row_beyond
-
-pub returns : goal.returns
-returns c = search row_there
+pub returns-in-Ok : goal.returns-in-Ok
+returns-in-Ok c =
+    let ends = c.in-Ok.ensures in
+    row_there c.args.o c.args.a c.args.i c.args.e.now c.in-Ok.f c.in-Ok.t ends.first ends.last c.if-i-ge-JOBS.false ends.ordered ends.bounded
