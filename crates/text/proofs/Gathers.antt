@@ -7,9 +7,7 @@ use mathlib.Core.List.{List, [], ◌∷◌, ◌++◌, append-nil, append_assoc}
 use borrow.Author.Rules.{rules}
 use lib.ListN.{length, get_or, set, take, drop, length-append, length-drop, length-set, take-append-drop, drop_of_length-le}
 use lib.Seq.{drop-cons, drop-drop, drop-set-lt, length-take-le, take-suc-set}
-use Rattle.text.specs.declared.fields.Fields.TheVariants.{Count, Bad}
-use Rattle.text.specs.declared.fields.Field.{Field}
-use Rattle.text.specs.declared.fields.Field.TheVariants.{Is as Number, Bad as Unread}
+use Rattle.std.specs.Prelude.{Some, None}
 use Rattle.text.specs.Grammar.{digits_of, fields_of, AllBelow}
 use Rattle.text.specs.Reads.{is_digit, Stops, Reading, Reads, Unreadable, Fieldless, Fronts, none, more, Leaves, Gathers}
 use Rattle.text.proofs.Runs.{head_is, tail_is, none_some, cut_same}
@@ -115,7 +113,7 @@ module _ {line out out' : List ℕ} {from i k : ℕ} (G : Gathering line out out
         is = sym (take-append-drop k out') ∙ rw (l, G.beyond);
       }
 
-  pub gather_done : length line ≤ i → Gathers (drop from line) out out' (Count k)
+  pub gather_done : length line ≤ i → Gathers (drop from line) out out' (Some k)
   gather_done h = record {
     counts = record {
       same = G.same;
@@ -128,20 +126,19 @@ module _ {line out out' : List ℕ} {from i k : ℕ} (G : Gathering line out out
   }
 
 module _ {line out out' : List ℕ} {from i k : ℕ} (G : Gathering line out out' from i k) (h : i < length line) where
-  bad : Fieldless (drop i line) → Gathers (drop from line) out out' Bad
+  bad : Fieldless (drop i line) → Gathers (drop from line) out out' None
   bad f = record { counts = λ ns b e. rest_none line i h f (G.rest (ns, b, e)); leaves = gather_leaves G f }
 
-  pub gather_other : (get_or line i 0 ≡ 32 → ⊥) → Gathers (drop from line) out out' Bad
+  pub gather_other : (get_or line i 0 ≡ 32 → ⊥) → Gathers (drop from line) out out' None
   gather_other n = bad (fieldless_other line i h n)
 
-module _ {line out out' : List ℕ} {from i k : ℕ} {r : Field} (F : Reads (drop (i + 1) line) line (i + 1) r) (G : Gathering line out out' from i k)
-    (h : i < length line) where
-  pub gather_unread : r ≡ Unread → Gathers (drop from line) out out' Bad
-  gather_unread q = bad G h (fieldless_unread line i h (rw q at F))
+module _ {line out out' : List ℕ} {from i k : ℕ} (G : Gathering line out out' from i k) (h : i < length line) where
+  pub gather_unread : Reads (drop (i + 1) line) line (i + 1) None → Gathers (drop from line) out out' None
+  gather_unread u = bad G h (fieldless_unread line i h u)
 
-  module _ {e v : ℕ} (q : r ≡ Number v e) where
+  module _ {v e : ℕ} (F : Reads (drop (i + 1) line) line (i + 1) (Some (v, e))) where
     R : Reading (drop (i + 1) line) line e v
-    R = (rw q at F).1
+    R = F.1
 
     ahead : i + 2 ≤ e
     ahead =
@@ -153,37 +150,34 @@ module _ {line out out' : List ℕ} {from i k : ℕ} {r : Field} (F : Reads (dro
     pub gather_less : length line - e < length line - i
     gather_less = let a = ahead in omega arith
 
-    room_for : length line ≤ from + 2 * length out + 1 → k < length out'
-    room_for room =
-        let s = G.same in
-        let p = G.pace in
-        let w = R.within in
-        let a = ahead in
-        omega arith
+    module _ (room : length line ≤ from + 2 * length out + 1) where
+      -- there is a place for its number
+      pub gather_room : k < length out'
+      gather_room =
+          let s = G.same in
+          let p = G.pace in
+          let w = R.within in
+          let a = ahead in
+          omega arith
 
-    pub gather_turn : length line ≤ from + 2 * length out + 1 → get_or line i 0 ≡ 32 → Gathering line out (set out' k v) from e (k + 1)
-    gather_turn room q =
-        let s = G.same in
-        let p = G.pace in
-        let a = ahead in
-        let m = room_for room in
-        let t : take (k + 1) (set out' k v) ≡ take k out' ++ (v ∷ []) = rw add-one (take-suc-set out' k v m) in
-        let f : drop i line ≡ 32 ∷ digits_of v ++ drop e line = rw (drop-cons line i 0 h, q, ← add-one i, R.text) in
-        record {
-          same = length-set out' k v ∙ s;
-          within = omega arith;
-          pace = omega arith;
-          text = G.text ∙ rw (f, t, fields_snoc, append_assoc);
-          below = rw t (below_snoc (take k out') v G.below R.below);
-          beyond = drop-set-lt (k + 1) out' k v (omega arith)
-              ∙ sym (drop-drop 1 k out') ∙ ap (drop 1) G.beyond ∙ drop-drop 1 k out;
-          rest = λ l. rest_next line i h R (G.rest l);
-          leads = λ ns l. rw (t, append_assoc) (G.leads (v ∷ ns) (more R.below R.stops f l));
-        }
-
--- there is a place for its number
-pub gather_room : {line out out' : List ℕ} {from i k : ℕ} {r : Field} {v e : ℕ} → Gathering line out out' from i k → r ≡ Number v e
-    → Reads (drop (i + 1) line) line (i + 1) r → i < length line → length line ≤ from + 2 * length out + 1 → k < length out'
-gather_room G q F h room = room_for F G h q room
+      pub gather_turn : get_or line i 0 ≡ 32 → Gathering line out (set out' k v) from e (k + 1)
+      gather_turn q =
+          let s = G.same in
+          let p = G.pace in
+          let a = ahead in
+          let m = gather_room in
+          let t : take (k + 1) (set out' k v) ≡ take k out' ++ (v ∷ []) = rw add-one (take-suc-set out' k v m) in
+          let f : drop i line ≡ 32 ∷ digits_of v ++ drop e line = rw (drop-cons line i 0 h, q, ← add-one i, R.text) in
+          record {
+            same = length-set out' k v ∙ s;
+            within = omega arith;
+            pace = omega arith;
+            text = G.text ∙ rw (f, t, fields_snoc, append_assoc);
+            below = rw t (below_snoc (take k out') v G.below R.below);
+            beyond = drop-set-lt (k + 1) out' k v (omega arith)
+                ∙ sym (drop-drop 1 k out') ∙ ap (drop 1) G.beyond ∙ drop-drop 1 k out;
+            rest = λ l. rest_next line i h R (G.rest l);
+            leads = λ ns l. rw (t, append_assoc) (G.leads (v ∷ ns) (more R.below R.stops f l));
+          }
 
 pub ruleset gathers = (rules, gather_start, gather_done, gather_other, gather_unread, gather_less, gather_turn)

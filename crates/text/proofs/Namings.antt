@@ -1,62 +1,50 @@
 -- A line's word: two words that a line begins with are one, and what a line's text comes to. Assumes nothing.
-use Prim.Native.Nat.{ℕ, suc, ◌+◌, ◌≤◌, ◌<◌}
+use Prim.Native.Nat.{ℕ, ◌<◌}
 use native.Mathlib.Omega.{arith}
-use native.Mathlib.Numerals.{add-one}
 use mathlib.Core.Path.{◌≡◌, refl, sym, ap, ◌∙◌}
 use mathlib.Core.Bool.{Bool, true, false}
 use mathlib.Core.Logic.{inl, inr}
 use mathlib.Core.List.{List, [], ◌∷◌, ◌++◌}
 use borrow.Author.Rules.{rules}
 use lib.Dec.{eqb}
-use lib.ListN.{length, get_or, take, drop, length-append, length-drop, get_or-append, take-append-drop, drop_of_length-le}
-use lib.Seq.{drop-cons, take-suc, take_all, drop-append_seam, length-take-le}
+use lib.Pointwise.{pointwise}
+use Rattle.std.proofs.lemmas.Slice.Eq.{bytes_eq-Decides}
+use lib.ListN.{length, get_or, take, drop, take-append-drop}
+use lib.Seq.{drop-cons, drop-append_seam, take-append_seam, length-take-le}
 use Rattle.text.specs.declared.vocabulary.Word.{Word}
-use Rattle.text.specs.declared.vocabulary.Word.TheVariants.{Plan}
-use Rattle.text.specs.declared.vocabulary.First.{First}
-use Rattle.text.specs.declared.vocabulary.First.TheVariants.{Is as Begins, Bad as Unknown}
-use Rattle.text.specs.declared.fields.Fields.{Fields}
-use Rattle.text.specs.declared.fields.Fields.TheVariants.{Count, Bad as Uncounted}
-use Rattle.text.specs.declared.parses.Line.TheVariants.{Is as Says, Bad as Unfit}
-use Rattle.text.specs.Grammar.{all_words, name_of, fits_of, fields_of, text_of}
-use Rattle.text.specs.Reads.{not_space, Stops, Named, Names, Wordless, Begun, Words, Counted, Uncountable, Gathers, Left, Parses}
+use Rattle.std.specs.Prelude.{Option, Some, None}
+use Rattle.text.specs.Grammar.{name_of, fits_of, fields_of, text_of}
+use Rattle.text.specs.Reads.{not_space, Stops, Named, Names, Words, Counted, Gathers, Left, Parses}
 use Rattle.text.proofs.Runs.{unlike, cut_same}
 use Rattle.text.proofs.Gathers.{fields_same}
 use Rattle.text.proofs.Tabled.{name_same, name_spaceless}
 
--- ── byte by byte ──
+-- ── the name in front ──
 
-module _ (line name : List ℕ) where
-  pub name_short : length line < length name → Named line name → ⊥
-  name_short h N = let l = simp (length-append, length-drop) at (ap length N.text) in omega arith
+module _ (line name rest : List ℕ) (e : pointwise eqb (take (length name) line) name ≡ true) (d : rest ≡ drop (length name) line) where
+  fronted : line ≡ name ++ drop (length name) line
+  fronted = sym (take-append-drop (length name) line) ∙ ap (λ (l : List ℕ). l ++ drop (length name) line) ((bytes_eq-Decides (take (length name) line) name).0 e)
 
-  module _ (i : ℕ) where
-    pub name_other : i < length name → (get_or line i 0 ≡ get_or name i 0 → ⊥) → Named line name → ⊥
-    name_other h n N = n (ap (λ (l : List ℕ). get_or l i 0) N.text ∙ get_or-append name (drop (length name) line) 0 i h)
+  pub name_end : length rest ≡ 0 → Named line name
+  name_end l = record { text = fronted; stops = go rest d l }
+    where
+      go : (r : List ℕ) → r ≡ drop (length name) line → length r ≡ 0 → Stops not_space (drop (length name) line)
+      go [] q k = rw (← q) tt
+      go (b ∷ r) q k = absurd (omega arith)
 
-    pub name_turn : take i line ≡ take i name → i < length name → length name ≤ length line → get_or line i 0 ≡ get_or name i 0
-        → take (i + 1) line ≡ take (i + 1) name
-    name_turn e h l q =
-        let k : i < length line = omega arith in
-        rw (add-one, take-suc line i 0 k, take-suc name i 0 h, e, q)
+  pub name_space : 0 < length rest → Names line name (eqb (get_or rest 0 0) 32)
+  name_space l = go (eqb (get_or rest 0 0) 32) refl
+    where
+      next : drop (length name) line ≡ get_or rest 0 0 ∷ drop 1 rest
+      next = sym d ∙ drop-cons rest 0 0 l
 
-    module _ (e : take i line ≡ take i name) (h : length name ≤ i) (w : i ≤ length name) where
-      front : line ≡ name ++ drop (length name) line
-      front =
-          let p : i ≡ length name = omega arith in
-          sym (take-append-drop i line) ∙ rw (e, take_all i name h, p)
+      go : (b : Bool) → eqb (get_or rest 0 0) 32 ≡ b → Names line name b
+      go true q = record { text = fronted; stops = rw (next, q) refl }
+      go false q = λ N. unlike (rw q refl) (rw next at N.stops)
 
-      pub name_end : length line ≤ i → Named line name
-      name_end l = record { text = front; stops = rw (drop_of_length-le line {i = length name} (omega arith)) tt }
-
-      pub name_space : i < length line → Names line name (eqb (get_or line i 0) 32)
-      name_space l = go (eqb (get_or line i 0) 32) refl
-        where
-          next : drop (length name) line ≡ get_or line i 0 ∷ drop (suc i) line
-          next = let p : length name ≡ i = omega arith in rw p (drop-cons line i 0 l)
-
-          go : (b : Bool) → eqb (get_or line i 0) 32 ≡ b → Names line name b
-          go true q = record { text = front; stops = rw (next, q) refl }
-          go false q = λ N. unlike (rw q refl) (rw next at N.stops)
+pub name_other : {line name : List ℕ} → pointwise eqb (take (length name) line) name ≡ false → Named line name → ⊥
+name_other {line} {name} e N =
+    unlike ((bytes_eq-Decides (take (length name) line) name).1 (ap (take (length name)) N.text ∙ take-append_seam name (drop (length name) line))) e
 
 -- ── two words ──
 
@@ -88,62 +76,45 @@ text_same w v ns ms e =
 
 -- ── a line ──
 
-module _ (line : List ℕ) {f : First} (F : Words line f) where
-  pub line_unknown : {out : List ℕ} → f ≡ Unknown → Parses line out out Unfit
-  line_unknown q =
-      let u : Wordless line = rw q at F in
-      record { means = λ w ns b f e. u w (text_named line w ns e); left = inl (u, refl) }
+module _ (line : List ℕ) where
+  pub line_unknown : {out : List ℕ} → Words line None → Parses line out out None
+  line_unknown u = record { means = λ w ns b f e. u w (text_named line w ns e); left = inl (u, refl) }
 
-  module _ {row k : ℕ} (q : f ≡ Begins row k) where
-    W : Begun line row k
-    W = rw q at F
+module _ {line : List ℕ} (w : Word) {name : List ℕ} (W : Words line (Some w)) (N : name ≡ name_of w) {out out' : List ℕ} where
+  left_fields : {r : Option ℕ} → Gathers (drop (length name) line) out out' r → Left line out out'
+  left_fields G = inr (w, W, (rw N at G).leaves)
 
-    pub line_row : row < length all_words
-    line_row = W.inside
+  pub line_uncounted : Gathers (drop (length name) line) out out' None → Parses line out out' None
+  line_uncounted G = let H = rw N at G in record { means = λ v ns b f e. H.counts ns b (text_split line w v ns W e).1; left = left_fields G }
 
-    module _ {out out' : List ℕ} {r : Fields} (G : Gathers (drop k line) out out' r) where
-      left_fields : Left line out out'
-      left_fields = inr (get_or all_words row Plan, W.named, rw W.long at G.leaves)
+  module _ {n : ℕ} (G : Gathers (drop (length name) line) out out' (Some n)) where
+    C : Counted (drop (length (name_of w)) line) out out' n
+    C = (rw N at G).counts
 
-      pub line_uncounted : r ≡ Uncounted → Parses line out out' Unfit
-      line_uncounted p =
-          let u : Uncountable (drop k line) = rw p at G.counts in
-          record {
-            means = λ v ns b f e. let (g, h) = text_split line (get_or all_words row Plan) v ns W.named e in u ns b (rw W.long h);
-            left = left_fields;
-          }
+    taken : length (take n out') ≡ n
+    taken = length-take-le n out' (let a = C.same in let c = C.within in omega arith)
 
-      module _ {n : ℕ} (p : r ≡ Count n) {b : Bool} (x : b ≡ fits_of (get_or all_words row Plan) n) where
-        C : Counted (drop k line) out out' n
-        C = rw p at G.counts
+    pub line_unfit : false ≡ fits_of w n → Parses line out out' None
+    line_unfit z = record {
+      means = λ v ns c f e.
+          let (g, h) = text_split line w v ns W e in
+          let s = fields_same ns (take n out') (sym h ∙ C.text) in
+          let l : length ns ≡ n = ap length s ∙ taken in
+          unlike (rw (← g, l) at f) (sym z);
+      left = left_fields G;
+    }
 
-        fields : drop (length (name_of (get_or all_words row Plan))) line ≡ fields_of (take n out')
-        fields = rw W.long at C.text
+    pub line_says : true ≡ fits_of w n → Parses line out out' (Some (w, n))
+    line_says z = record {
+      means = record {
+        same = C.same;
+        within = C.within;
+        text = W.text ∙ rw C.text;
+        below = C.below;
+        fits = sym z;
+        beyond = C.beyond;
+      };
+      left = left_fields G;
+    }
 
-        taken : length (take n out') ≡ n
-        taken = length-take-le n out' (let a = C.same in let c = C.within in omega arith)
-
-        pub line_unfit : b ≡ false → Parses line out out' Unfit
-        line_unfit z = record {
-          means = λ v ns c f e.
-              let (g, h) = text_split line (get_or all_words row Plan) v ns W.named e in
-              let s = fields_same ns (take n out') (sym h ∙ fields) in
-              let l : length ns ≡ n = ap length s ∙ taken in
-              unlike (rw (← g, l) at f) (sym x ∙ z);
-          left = left_fields;
-        }
-
-        pub line_says : {w : Word} → w ≡ get_or all_words row Plan → b ≡ true → Parses line out out' (Says w n)
-        line_says i z = record {
-          means = record {
-            same = C.same;
-            within = C.within;
-            text = W.named.text ∙ rw (i, fields);
-            below = C.below;
-            fits = rw i (sym x ∙ z);
-            beyond = C.beyond;
-          };
-          left = left_fields;
-        }
-
-pub ruleset namings = (rules, name_short, name_other, name_turn, name_end, name_space, line_unknown, line_row, line_uncounted, line_unfit, line_says)
+pub ruleset namings = (rules, line_unknown, line_uncounted, line_unfit, line_says)

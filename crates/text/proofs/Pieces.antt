@@ -1,14 +1,17 @@
 -- One piece of bytes behind the other, each where the one before it ends, and how far they go; pieces in turn. Assumes nothing.
-use Prim.Native.Nat.{ℕ, suc, ◌+◌, ◌*◌, ◌^◌, ◌≤◌, ◌<◌}
+use Prim.Native.Nat.{ℕ, suc, ◌+◌, ◌-◌, ◌*◌, ◌^◌, ◌≤◌, ◌<◌}
 use native.Mathlib.Nat.{add-zero, mul-suc, mul-zero}
 use native.Mathlib.Omega.{arith}
 use native.Mathlib.Numerals.{add-one}
-use mathlib.Core.Path.{◌≡◌, refl, ap, ◌∙◌}
+use mathlib.Core.Path.{◌≡◌, refl, sym, ap, ◌∙◌}
 use mathlib.Core.List.{List, [], ◌∷◌, ◌++◌}
 use borrow.Author.Rules.{rules}
 use lib.IntN.{ℤ, pos, negsuc}
-use lib.ListN.{length, set, length-append, get_or, drop, drop_of_length-le}
-use lib.Seq.{sets, length-sets, drop-cons}
+use lib.ListN.{length, set, length-append, get_or, take, drop, drop_of_length-le}
+use borrow.Rule.Slice.PartMut.{put_mid}
+use Rattle.std.proofs.lemmas.List.{take_all}
+use Rattle.std.proofs.lemmas.Slice.{put_mid-paste}
+use lib.Seq.{sets, sets-eq, length-sets, drop-cons}
 use lib.Signed.{mag}
 use mir.Syntax.{w64}
 use mir.Val.{SFits, to_z, of_z}
@@ -37,6 +40,17 @@ wrote_behind {out} {at} {a} {p} {o₁} {b} {r} {o₂} A B =
     let f = B.end in
     let l = length-append a b in
     record { end = omega arith; is = B.is ∙ rw (A.is, e) (sets_append out a b at) }
+
+-- all of s, written at once
+pub wrote_whole : (out : List ℕ) (at : ℕ) (s : List ℕ) {ys : List ℕ} → ys ≡ s → at + length s ≤ length out
+    → Wrote out at s (at + length s) (put_mid at (at + length s - at) out ys)
+wrote_whole out at s {ys} e h =
+    let n : length s ≡ at + length s - at = omega arith in
+    record {
+      end = refl;
+      is = put_mid-paste at (at + length s - at) out ys s (length s) e n refl
+          ∙ ap (λ (l : List ℕ). (take at out ++ l) ++ drop (at + length s) out) (take_all (length s) s (omega arith)) ∙ sym (sets-eq s out at h);
+    }
 
 pub wrote_length : {out : List ℕ} {at : ℕ} {a : List ℕ} {r : ℕ} {o : List ℕ} → Wrote out at a r o → length o ≡ length out
 wrote_length {out} {at} {a} W = ap length W.is ∙ length-sets out at a
@@ -117,27 +131,6 @@ turning_by T A = record { long = wrote_length A ∙ T.long; left = λ W. T.left 
 
 pub turning_done : {whole out₀ : List ℕ} {at : ℕ} {out : List ℕ} {p : ℕ} → Turning whole out₀ at [] out p → Wrote out₀ at whole p out
 turning_done {out = out} {p = p} T = T.left (wrote_none out p)
-
--- ── bytes, of which i are written ──
-
-pub record Copying (s out₀ : List ℕ) (at : ℕ) (out : List ℕ) (i : ℕ) : Type 0 where
-  pub to : i ≤ length s
-  pub turning : Turning s out₀ at (drop i s) out (at + i)
-
-pub copy_start : (s out : List ℕ) (at : ℕ) → Copying s out at out 0
-copy_start s out at = record { to = omega arith; turning = rw add-zero (turning_start s out at) }
-
-module _ {s out₀ : List ℕ} {at : ℕ} {out : List ℕ} {i : ℕ} (C : Copying s out₀ at out i) where
-  pub copy_turn : i < length s → Copying s out₀ at (set out (at + i) (get_or s i 0)) (i + 1)
-  copy_turn h =
-      let T : Turning s out₀ at ((get_or s i 0 ∷ []) ++ drop (suc i) s) out (at + i) = rw (drop-cons s i 0 h) at C.turning in
-      let W : Wrote out (at + i) (get_or s i 0 ∷ []) (at + suc i) (set out (at + i) (get_or s i 0)) = record { end = omega arith; is = refl } in
-      record { to = omega arith; turning = rw add-one (turning_by T W) }
-
-  pub copy_done : length s ≤ i → Wrote out₀ at s (at + i) out
-  copy_done h = turning_done (rw (drop_of_length-le s h) at C.turning)
-
-pub ruleset copies = (rules, copy_start, copy_turn, copy_done)
 
 -- rows of a list, each of at most m bytes, of which i are written
 pub record Rows {X : Type 0} (rows : List X → List ℕ) (m : ℕ) (list : List X) (out₀ : List ℕ) (at : ℕ) (out : List ℕ) (p i : ℕ)

@@ -9,8 +9,7 @@ use lib.ListN.{length, get_or, set, take, drop, length-append, length-set}
 use lib.Seq.{sets, sets-eq, length-sets, length-take-le, drop_at, drop-cons}
 use mir.Syntax.{w64}
 use mir.Val.{SFits}
-use Rattle.text.specs.declared.fields.Field.{Field}
-use Rattle.text.specs.declared.fields.Field.TheVariants.{Is as Number}
+use Rattle.std.specs.Prelude.{Option, Some}
 use Rattle.text.specs.Grammar.{digits_of}
 use Rattle.text.specs.Reads.{is_digit, Every, Stops, Reads}
 use Rattle.text.specs.Writes.{signed_of, Wrote}
@@ -34,18 +33,18 @@ module _ (out : List ℕ) (at : ℕ) (bytes : List ℕ) (room : at + length byte
 module _ (out : List ℕ) (at x : ℕ) {r : ℕ} {out' : List ℕ} (h : x < 2 ^ 64) (room : at + length (digits_of x) ≤ length out)
     (W : Wrote out at (digits_of x) r out') (s : Stops is_digit (drop r out')) where
   -- the digits of x, where no digit follows, are read as x
-  pub number_back : (a : Field) → Reads (drop at out') out' at a → a ≡ Number x r
+  pub number_back : (a : Option (ℕ × ℕ)) → Reads (drop at out') out' at a → a ≡ Some (x, r)
   number_back a R =
       let e = W.end in
       let l : length out' ≡ length out = ap length W.is ∙ length-sets out at (digits_of x) in
       let t : drop at out' ≡ digits_of x ++ drop r out' = rw (W.is, e) (written_text out at (digits_of x) room) in
-      reads_same (drop at out') out' at a (Number x r) R
+      reads_same (drop at out') out' at a (Some (x, r)) R
       (omega arith, record { below = h; within = omega arith; text = t; stops = s })
 
 -- of a number below 0, the sign, and behind it its size
 abbrev pub ReadsBack : ℤ → List ℕ → ℕ → ℕ → Type 0
-ReadsBack (pos n) out at r = (a : Field) → Reads (drop at out) out at a → a ≡ Number n r
-ReadsBack (negsuc n) out at r = (get_or out at 0 ≡ 45) × ((a : Field) → Reads (drop (suc at) out) out (suc at) a → a ≡ Number (suc n) r)
+ReadsBack (pos n) out at r = (a : Option (ℕ × ℕ)) → Reads (drop at out) out at a → a ≡ Some (n, r)
+ReadsBack (negsuc n) out at r = (get_or out at 0 ≡ 45) × ((a : Option (ℕ × ℕ)) → Reads (drop (suc at) out) out (suc at) a → a ≡ Some (suc n, r))
 
 pub signed_back : (out : List ℕ) (at : ℕ) (x : ℤ) {r : ℕ} {out' : List ℕ} → SFits w64 x → at + length (signed_of x) ≤ length out
     → Wrote out at (signed_of x) r out' → Stops is_digit (drop r out') → ReadsBack x out' at r

@@ -1,25 +1,19 @@
 -- Two replies that keep a promise are one. Assumes nothing.
-use Prim.Native.Nat.{ℕ, suc, ◌+◌, ◌-◌, ◌≤◌, ◌<◌}
+use Prim.Native.Nat.{ℕ, suc, ◌-◌, ◌≤◌}
 use native.Mathlib.Nat.{suc_inj}
 use native.Mathlib.Omega.{arith}
 use mathlib.Core.Path.{◌≡◌, refl, sym, ap, ◌∙◌}
 use mathlib.Core.Bool.{true}
-use mathlib.Core.Logic.{◌⊎◌, inl, inr}
+use mathlib.Core.Logic.{inl, inr}
 use mathlib.Core.List.{List, ◌∷◌, ◌++◌}
-use lib.ListN.{length, take, drop, length-take, length-drop}
-use lib.Seq.{length-take-le, get_or-take, get_or-drop}
-use Rattle.rules.proofs.Ranges.{lt_or_le}
-use Rattle.text.specs.declared.ends.End.{End}
-use Rattle.text.specs.declared.ends.End.TheVariants.{At, Nothing}
+use lib.ListN.{length, take, drop, length-drop}
+use lib.Seq.{length-take-le}
+use Rattle.std.specs.Prelude.{Option, Some, None}
 use Rattle.text.specs.declared.vocabulary.Word.{Word}
-use Rattle.text.specs.declared.fields.Field.{Field}
-use Rattle.text.specs.declared.fields.Field.TheVariants.{Is as Number, Bad as Unread}
-use Rattle.text.specs.declared.parses.Line.{Line}
-use Rattle.text.specs.declared.parses.Line.TheVariants.{Is as Says, Bad as Unfit}
 use Rattle.text.specs.Grammar.{fits_of}
-use Rattle.text.specs.Reads.{other, Every, Searched, Ended, Ends, Reads, Fronts, none, more, Leaves, Parsed, Means, Left, Parses}
+use Rattle.text.specs.Reads.{other, Every, Ended, Ends, Reads, Fronts, none, more, Leaves, Parsed, Means, Left, Parses}
 use Rattle.text.specs.Writes.{Wrote, Fills}
-use Rattle.text.proofs.Runs.{unlike, every_get_or, tail_is, every_at, cut_same}
+use Rattle.text.proofs.Runs.{unlike, tail_is, every_at, cut_same}
 use Rattle.text.proofs.LineEnds.{other_self}
 use Rattle.text.proofs.Gathers.{field_same}
 use Rattle.text.proofs.Namings.{named_same, text_same}
@@ -35,46 +29,27 @@ module _ (byte : ℕ) (input : List ℕ) (from : ℕ) where
   never_ended {e} E k =
       unlike (every_at (other byte) (take (e - from) (drop from input)) byte (drop (suc e) input) (rw E.text at k)) (other_self byte)
 
-  not_before : {e d : ℕ} → Searched byte input from e → Searched byte input from d → e < d → ⊥
-  not_before {e} {d} E D h =
-      let a = E.ahead in
-      let w = D.within in
-      let q : from + (e - from) ≡ e = omega arith in
-      let l : e - from < length (take (d - from) (drop from input)) = rw (length-take, length-drop) (omega arith) in
-      let x = every_get_or (other byte) (take (d - from) (drop from input)) (e - from) D.passed l in
-      let k : e - from < d - from = omega arith in
-      unlike (rw (get_or-take (d - from) (drop from input) (e - from) 0 k, get_or-drop from input (e - from) 0, q, E.stands (omega arith)) at x)
-      (other_self byte)
-
-  pub searched_same : {e d : ℕ} → Searched byte input from e → Searched byte input from d → e ≡ d
-  searched_same {e} {d} E D = by (lt_or_le e d) (lt_or_le d e)
-    where
-      by : (e < d) ⊎ (d ≤ e) → (d < e) ⊎ (e ≤ d) → e ≡ d
-      by (inl h) k = absurd (not_before E D h)
-      by (inr h) (inl k) = absurd (not_before D E k)
-      by (inr h) (inr k) = omega arith
-
-  pub ends_same : (r s : End) → Ends byte input from r → Ends byte input from s → r ≡ s
-  ends_same (At e) (At d) E D =
+  pub ends_same : (r s : Option ℕ) → Ends byte input from r → Ends byte input from s → r ≡ s
+  ends_same (Some e) (Some d) E D =
       let (f, g) = cut_same (other byte) (take (e - from) (drop from input)) (take (d - from) (drop from input))
       {r = byte ∷ drop (suc e) input} {s = byte ∷ drop (suc d) input} E.line D.line (other_self byte) (other_self byte)
       (sym E.text ∙ D.text) in
       let q = place_same input (suc e) (suc d) E.within D.within (tail_is g) in
-      ap At (suc_inj q)
-  ends_same (At e) Nothing E k = never_ended E k
-  ends_same Nothing (At d) k D = never_ended D k
-  ends_same Nothing Nothing k j = refl
+      ap Some (suc_inj q)
+  ends_same (Some e) None E k = never_ended E k
+  ends_same None (Some d) k D = never_ended D k
+  ends_same None None k j = refl
 
 -- ── a number ──
 
-pub reads_same : (t line : List ℕ) (from : ℕ) (r s : Field) → Reads t line from r → Reads t line from s → r ≡ s
-reads_same t line from (Number x e) (Number y d) (h, R) (k, S) =
+pub reads_same : (t line : List ℕ) (from : ℕ) (r s : Option (ℕ × ℕ)) → Reads t line from r → Reads t line from s → r ≡ s
+reads_same t line from (Some (x, e)) (Some (y, d)) (h, R) (k, S) =
     let (f, g) = field_same x y R.stops S.stops (sym R.text ∙ S.text) in
     let q = place_same line e d R.within S.within g in
     cc
-reads_same t line from (Number x e) Unread (h, R) u = absurd (u x _ R.below R.stops R.text)
-reads_same t line from Unread (Number y d) u (k, S) = absurd (u y _ S.below S.stops S.text)
-reads_same t line from Unread Unread u v = refl
+reads_same t line from (Some (x, e)) None (h, R) u = absurd (u x _ R.below R.stops R.text)
+reads_same t line from None (Some (y, d)) u (k, S) = absurd (u y _ S.below S.stops S.text)
+reads_same t line from None None u v = refl
 
 -- ── what is written ──
 
@@ -103,14 +78,14 @@ module _ {line out o : List ℕ} {w : Word} {k : ℕ} (P : Parsed line out o w k
   parsed_fits = ap (fits_of w) parsed_length ∙ P.fits
 
 module _ (line out o₁ o₂ : List ℕ) where
-  means_same : (r s : Line) → Means line out o₁ r → Means line out o₂ s → r ≡ s
-  means_same (Says w k) (Says v n) P Q =
+  means_same : (r s : Option (Word × ℕ)) → Means line out o₁ r → Means line out o₂ s → r ≡ s
+  means_same (Some (w, k)) (Some (v, n)) P Q =
       let (e, f) = text_same w v (take k o₁) (take n o₂) (sym P.text ∙ Q.text) in
       let q : k ≡ n = sym (parsed_length P) ∙ ap length f ∙ parsed_length Q in
       cc
-  means_same (Says w k) Unfit P u = absurd (u w (take k o₁) P.below (parsed_fits P) P.text)
-  means_same Unfit (Says v n) u Q = absurd (u v (take n o₂) Q.below (parsed_fits Q) Q.text)
-  means_same Unfit Unfit u v = refl
+  means_same (Some (w, k)) None P u = absurd (u w (take k o₁) P.below (parsed_fits P) P.text)
+  means_same None (Some (v, n)) u Q = absurd (u v (take n o₂) Q.below (parsed_fits Q) Q.text)
+  means_same None None u v = refl
 
   left_same : Left line out o₁ → Left line out o₂ → o₁ ≡ o₂
   left_same (inl (u, e)) (inl (v, f)) = e ∙ sym f
@@ -118,7 +93,7 @@ module _ (line out o₁ o₂ : List ℕ) where
   left_same (inr (w, N, L)) (inl (u, e)) = absurd (u w N)
   left_same (inr (w, N, L)) (inr (v, M, K)) = leaves_same L (rw (named_same line w v N M) K)
 
-  pub parses_same : (r s : Line) → Parses line out o₁ r → Parses line out o₂ s → (r ≡ s) × (o₁ ≡ o₂)
+  pub parses_same : (r s : Option (Word × ℕ)) → Parses line out o₁ r → Parses line out o₂ s → (r ≡ s) × (o₁ ≡ o₂)
   parses_same r s P Q = (means_same r s P.means Q.means, left_same P.left Q.left)
 
 -- ── what is written at a place ──

@@ -2,5 +2,4 @@
 pub mod Answers
 pub mod Grammar
 pub mod Reads
-pub mod Rows
 pub mod Writes

@@ -1,18 +1,7 @@
 -- What the functions that read promise. Assumes nothing.
-use Rattle.std.specs.Prelude.{ℕ, suc, ◌+◌, ◌-◌, ◌^◌, ◌≤◌, ◌<◌, max, ◌≡◌, Bool, true, false, not, ◌&&◌, ◌⊎◌, List, [], ◌∷◌, ◌++◌, eqb, leb, length, get_or, take, drop}
-use Rattle.text.specs.declared.ends.End.{End}
-use Rattle.text.specs.declared.ends.End.TheVariants.{At, Nothing}
+use Rattle.std.specs.Prelude.{ℕ, suc, ◌+◌, ◌-◌, ◌^◌, ◌≤◌, ◌<◌, ◌≡◌, Bool, true, false, not, ◌&&◌, ◌⊎◌, Option, Some, None, List, [], ◌∷◌, ◌++◌, eqb, leb, length, take, drop}
 use Rattle.text.specs.declared.vocabulary.Word.{Word}
-use Rattle.text.specs.declared.vocabulary.Word.TheVariants.{Plan}
-use Rattle.text.specs.declared.vocabulary.First.{First}
-use Rattle.text.specs.declared.vocabulary.First.TheVariants.{Is as Begins, Bad as Unknown}
-use Rattle.text.specs.declared.fields.Field.{Field}
-use Rattle.text.specs.declared.fields.Field.TheVariants.{Is as Number, Bad as Unread}
-use Rattle.text.specs.declared.fields.Fields.{Fields}
-use Rattle.text.specs.declared.fields.Fields.TheVariants.{Count, Bad as Uncounted}
-use Rattle.text.specs.declared.parses.Line.{Line}
-use Rattle.text.specs.declared.parses.Line.TheVariants.{Is as Says, Bad as Unfit}
-use Rattle.text.specs.Grammar.{all_words, name_of, fits_of, digits_of, fields_of, AllBelow, text_of}
+use Rattle.text.specs.Grammar.{name_of, fits_of, digits_of, fields_of, AllBelow, text_of}
 
 -- ── kinds of bytes ──
 
@@ -40,13 +29,6 @@ Stops p (b ∷ l) = p b ≡ false
 
 -- ── where a byte stands first: LF at a line's end, a space at a name's ──
 
--- from a place up to e it stands nowhere, and at e it does, unless the input ends there or before the place
-pub record Searched (byte : ℕ) (input : List ℕ) (from e : ℕ) : Type 0 where
-  pub ahead : from ≤ e
-  pub within : e ≤ max from (length input)
-  pub passed : Every (other byte) (take (e - from) (drop from input))
-  pub stands : e < length input → get_or input e 0 ≡ byte
-
 -- what is left of the input from a place on is a run without the byte, the byte and the rest
 pub record Ended (byte : ℕ) (input : List ℕ) (from e : ℕ) : Type 0 where
   pub ahead : from ≤ e
@@ -54,9 +36,9 @@ pub record Ended (byte : ℕ) (input : List ℕ) (from e : ℕ) : Type 0 where
   pub line : Every (other byte) (take (e - from) (drop from input))
   pub text : drop from input ≡ take (e - from) (drop from input) ++ byte ∷ drop (suc e) input
 
-abbrev pub Ends : ℕ → List ℕ → ℕ → End → Type 0
-Ends byte input from (At e) = Ended byte input from e
-Ends byte input from Nothing = Every (other byte) (drop from input)
+abbrev pub Ends : ℕ → List ℕ → ℕ → Option ℕ → Type 0
+Ends byte input from (Some e) = Ended byte input from e
+Ends byte input from None = Every (other byte) (drop from input)
 
 -- ── a word ──
 
@@ -73,22 +55,16 @@ Names line name false = Named line name → ⊥
 abbrev pub Wordless : List ℕ → Type 0
 Wordless line = (w : Word) → Named line (name_of w) → ⊥
 
--- the line begins with the word of a row, whose name is k bytes long
-pub record Begun (line : List ℕ) (row k : ℕ) : Type 0 where
-  pub inside : row < length all_words
-  pub long : k ≡ length (name_of (get_or all_words row Plan))
-  pub named : Named line (name_of (get_or all_words row Plan))
-
-abbrev pub Words : List ℕ → First → Type 0
-Words line (Begins row k) = Begun line row k
-Words line Unknown = Wordless line
+abbrev pub Words : List ℕ → Option Word → Type 0
+Words line (Some w) = Named line (name_of w)
+Words line None = Wordless line
 
 -- ── a number ──
 
--- the byte is that of the digit d; 10 stands for a byte that is no digit's
-pub record Digit (b d : ℕ) : Type 0 where
-  pub is : d < 10 → b ≡ 48 + d
-  pub none : 10 ≤ d → is_digit b ≡ false
+-- the byte is that of the digit d, or no digit's
+abbrev pub Digit : ℕ → Option ℕ → Type 0
+Digit b (Some d) = (d < 10) × (b ≡ 48 + d)
+Digit b None = is_digit b ≡ false
 
 -- the text t is the digits of v and then the line from place e on, where no digit stands
 pub record Reading (t line : List ℕ) (e v : ℕ) : Type 0 where
@@ -101,9 +77,10 @@ pub record Reading (t line : List ℕ) (e v : ℕ) : Type 0 where
 abbrev pub Unreadable : List ℕ → Type 0
 Unreadable t = (v : ℕ) (rest : List ℕ) → v < 2 ^ 64 → Stops is_digit rest → t ≡ digits_of v ++ rest → ⊥
 
-abbrev pub Reads : List ℕ → List ℕ → ℕ → Field → Type 0
-Reads t line from (Number v e) = (from ≤ e) × Reading t line e v
-Reads t line from Unread = Unreadable t
+-- the number, and the place after it
+abbrev pub Reads : List ℕ → List ℕ → ℕ → Option (ℕ × ℕ) → Type 0
+Reads t line from (Some n) = (from ≤ n.1) × Reading t line n.1 n.0
+Reads t line from None = Unreadable t
 
 -- ── numbers ──
 
@@ -119,9 +96,9 @@ pub record Counted (t out out' : List ℕ) (k : ℕ) : Type 0 where
 abbrev pub Uncountable : List ℕ → Type 0
 Uncountable t = (ns : List ℕ) → AllBelow ns → t ≡ fields_of ns → ⊥
 
-abbrev pub Counts : List ℕ → List ℕ → List ℕ → Fields → Type 0
-Counts t out out' (Count k) = Counted t out out' k
-Counts t out out' Uncounted = Uncountable t
+abbrev pub Counts : List ℕ → List ℕ → List ℕ → Option ℕ → Type 0
+Counts t out out' (Some k) = Counted t out out' k
+Counts t out out' None = Uncountable t
 
 -- no field stands in front of the text
 abbrev pub Fieldless : List ℕ → Type 0
@@ -138,7 +115,7 @@ pub record Leaves (t out out' : List ℕ) : Type 0 where
   pub leads : Fronts t front
   pub is : out' ≡ front ++ drop (length front) out
 
-pub record Gathers (t out out' : List ℕ) (r : Fields) : Type 0 where
+pub record Gathers (t out out' : List ℕ) (r : Option ℕ) : Type 0 where
   pub counts : Counts t out out' r
   pub leaves : Leaves t out out'
 
@@ -157,15 +134,15 @@ pub record Parsed (line out out' : List ℕ) (w : Word) (k : ℕ) : Type 0 where
 abbrev pub Unparsable : List ℕ → Type 0
 Unparsable line = (w : Word) (ns : List ℕ) → AllBelow ns → fits_of w (length ns) ≡ true → line ≡ text_of w ns → ⊥
 
-abbrev pub Means : List ℕ → List ℕ → List ℕ → Line → Type 0
-Means line out out' (Says w k) = Parsed line out out' w k
-Means line out out' Unfit = Unparsable line
+abbrev pub Means : List ℕ → List ℕ → List ℕ → Option (Word × ℕ) → Type 0
+Means line out out' (Some m) = Parsed line out out' m.0 m.1
+Means line out out' None = Unparsable line
 
 -- what stands in front, whether the line fits or not: nothing new without a word, else the numbers of the fields behind it
 abbrev pub Left : List ℕ → List ℕ → List ℕ → Type 0
 Left line out out' =
     (Wordless line × (out' ≡ out)) ⊎ ((w : Word) × Named line (name_of w) × Leaves (drop (length (name_of w)) line) out out')
 
-pub record Parses (line out out' : List ℕ) (r : Line) : Type 0 where
+pub record Parses (line out out' : List ℕ) (r : Option (Word × ℕ)) : Type 0 where
   pub means : Means line out out' r
   pub left : Left line out out'

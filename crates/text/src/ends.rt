@@ -1,34 +1,21 @@
 // Where a line ends.
-ghost use Rattle.text.specs.Reads.{Searched, Ends};
+ghost use Rattle.text.specs.Reads.{Ends};
 
-#[derive(Clone, Copy)]
-pub enum End {
-    At(usize),
-    Nothing,
-}
-
-// The place of the first such byte from `from` on, or the input's end.
-pub fn find(input: &[u8], from: usize, byte: u8) -> usize
-    ensures { Searched byte input.now from result }
+// The place of the first such byte from `from` on.
+pub fn find(input: &[u8], from: usize, byte: u8) -> Option<usize>
+    ensures { Ends byte input.now from result }
 {
-    let mut i = from;
-    while i < input.len() {
+    for i in from..input.len() {
         if input[i] == byte {
-            return i;
+            return Some(i);
         }
-        i += 1;
     }
-    i
+    None
 }
 
 // The place of the first LF from `from` on.
-pub fn line_end(input: &[u8], from: usize) -> End
+pub fn line_end(input: &[u8], from: usize) -> Option<usize>
     ensures { Ends 10 input.now from result }
 {
-    let e = find(input, from, b'\n');
-    if e < input.len() {
-        End::At(e)
-    } else {
-        End::Nothing
-    }
+    find(input, from, b'\n')
 }

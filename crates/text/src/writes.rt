@@ -1,5 +1,5 @@
 // Bytes, digits and fields. What writes does so at a place, and answers the place behind what it wrote.
-ghost use Rattle.std.specs.Prelude.{◌≡◌, ◌+◌, ◌≤◌, ◌<◌, [], ◌∷◌, nat_abs, length};
+ghost use Rattle.std.specs.Prelude.{◌≡◌, ◌+◌, ◌≤◌, ◌<◌, [], ◌∷◌, length};
 ghost use Rattle.text.specs.Grammar.{digits_of};
 ghost use Rattle.text.specs.Writes.{Wrote, Fills, signed_of, most_digits, most_field, most_signed};
 
@@ -32,22 +32,12 @@ pub(crate) fn write_number(out: &mut [u8], at: usize, x: u64) -> usize
     end
 }
 
-// The number without its sign.
-fn size(x: i64) -> u64
-    ensures { result ≡ nat_abs x }
-{
-    if x < 0 {
-        return (-1 - x) as u64 + 1;
-    }
-    x as u64
-}
-
 // A minus sign, if x is below 0, and the digits of its size.
 pub(crate) fn write_signed(out: &mut [u8], at: usize, x: i64) -> usize
     requires { at + most_field ≤ length out.old }
     ensures { Wrote out.old at (signed_of x) result out.new }
 {
-    let n = size(x);
+    let n = x.unsigned_abs();
     if x < 0 {
         out[at] = b'-';
         return write_number(out, at + 1, n);
@@ -67,12 +57,9 @@ pub(crate) fn bytes(out: &mut [u8], at: usize, s: &[u8]) -> usize
     requires { at + length s.now ≤ length out.old }
     ensures { Wrote out.old at s.now result out.new }
 {
-    let mut i: usize = 0;
-    while i < s.len() {
-        out[at + i] = s[i];
-        i += 1;
-    }
-    at + i
+    let end = at + s.len();
+    out[at..end].copy_from_slice(s);
+    end
 }
 
 // A space and a number.

@@ -1,37 +1,22 @@
-use Rattle.text.proofs.Namings.{namings}
+use native.Mathlib.Omega.{arith}
+use mathlib.Core.Path.{◌≡◌}
+use lib.ListN.{length}
+use Rattle.std.proofs.lemmas.Bool.Decides.{nat_tests}
+use Rattle.text.proofs.Namings.{name_other, name_end, name_space}
 use Rattle.text.proofs.vocabulary.begins.Goals as goal
 
--- `begins`: byte by byte, then a space or the line's end. Assumes nothing.
+-- `begins`: what is left behind the name begins with a space, or is nothing. Assumes nothing.
 
-pub returns-then-line-name : goal.returns-then-line-name
-returns-then-line-name c = search namings
+pub returns-in-None : goal.returns-in-None
+returns-in-None c = name_other c.in-None.ensures.cases
 
-pub loop-i-init : goal.loop-i-init
-loop-i-init c = search namings
+pub returns-then-is_empty : goal.returns-then-is_empty
+returns-then-is_empty c =
+    let (e, d, l) = c.in-Some.ensures.cases in
+    let k : length c.in-Some.rest.now ≡ 0 = grind (arith, nat_tests, c.if-is_empty.ensures) in
+    rw c.if-is_empty.true (name_end c.args.line.now c.args.name.now c.in-Some.rest.now e d k)
 
-pub bounds-line-i : goal.bounds-line-i
-bounds-line-i c = search namings
-
-pub bounds-name-i : goal.bounds-name-i
-bounds-name-i c = search namings
-
-pub returns-then-line-i : goal.returns-then-line-i
-returns-then-line-i c = search namings
-
-pub overflow_add-i : goal.overflow_add-i
-overflow_add-i c = search namings
-
-pub loop-i-smaller : goal.loop-i-smaller
-loop-i-smaller c = search namings
-
-pub loop-i-preserved : goal.loop-i-preserved
-loop-i-preserved c = search namings
-
-pub bounds-line-i-then-i-line : goal.bounds-line-i-then-i-line
-bounds-line-i-then-i-line c = search namings
-
-pub returns-then-i-line : goal.returns-then-i-line
-returns-then-i-line c = search namings
-
-pub returns : goal.returns
-returns c = search namings
+pub returns-else-is_empty : goal.returns-else-is_empty
+returns-else-is_empty c =
+    let (e, d, l) = c.in-Some.ensures.cases in
+    name_space c.args.line.now c.args.name.now c.in-Some.rest.now e d (grind (arith, nat_tests, c.if-is_empty.ensures))
