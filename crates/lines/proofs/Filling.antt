@@ -3,7 +3,7 @@ use Prim.Native.Nat.{ℕ, zero, suc, ◌+◌, ◌-◌, ◌≤◌, ◌<◌, min}
 use native.Mathlib.Omega.{arith}
 use native.Mathlib.Numerals.{add-one}
 use mathlib.Core.Path.{◌≡◌, refl, sym, ap, ◌∙◌}
-use mathlib.Core.List.{List, [], ◌∷◌, ◌++◌, map, map-id}
+use mathlib.Core.List.{List, [], ◌∷◌, ◌++◌, map}
 use borrow.Author.Rules.{rules}
 use lib.ListN.{length, get_or, set, drop, take, length-set, drop_of_length-le, length-drop, length-map}
 use lib.Seq.{sets, drop-cons, take-suc-set, take_all, take_at, sets-eq, length-sets}
@@ -48,42 +48,35 @@ module _ {g : ℕ → ℕ} {s a₀ a : List ℕ} {i : ℕ} (M : Mapping g s a₀
   pub mapping_done : length s ≤ i → a ≡ sets a₀ 0 (map g s)
   mapping_done h = map_done g s a (sets a₀ 0 (map g s)) i M.left h
 
--- the numbers themselves
-pub keeping_done : {s a₀ a : List ℕ} {i : ℕ} → Mapping (λ x. x) s a₀ a i → length s ≤ i → a ≡ sets a₀ 0 s
-keeping_done {s} {a₀} M h = mapping_done M h ∙ ap (sets a₀ 0) (map-id s)
-
 -- a table's last
 table_last : {A : Type 0} (n : ℕ) (f : ℕ → A) → table (suc n) f ≡ table n f ++ (f n ∷ [])
 table_last zero f = refl
 table_last {A} (suc n) f = ap {B = List A} (λ (l : List A). f 0 ∷ l) (table_last n (λ v. f (suc v)))
 
--- of so many owners the first i stand in front, and the next is written
-pub record Rising (all : ℕ) (a : List ℕ) (i x : ℕ) : Type 0 where
+-- of so many owners the first i stand in front
+pub record Rising (all : ℕ) (a : List ℕ) (i : ℕ) : Type 0 where
   pub to : i ≤ all
   pub few : all ≤ most_owners
-  pub next : x ≡ i
   pub long : length a ≡ most_owners
   pub front : take i a ≡ up_to i
 
-pub rise_start : (all n : ℕ) (a : List ℕ) → all ≡ min n most_owners → length a ≡ most_owners → Rising all a 0 0
-rise_start all n a e h = record { to = omega arith; few = omega arith; next = refl; long = h; front = refl }
+pub rise_start : (all n : ℕ) (a : List ℕ) → all ≡ min n most_owners → length a ≡ most_owners → Rising all a 0
+rise_start all n a e h = record { to = omega arith; few = omega arith; long = h; front = refl }
 
-module _ {all : ℕ} {a : List ℕ} {i x : ℕ} (R : Rising all a i x) where
-  pub rise_turn : i < all → Rising all (set a i x) (i + 1) (x + 1)
+module _ {all : ℕ} {a : List ℕ} {i : ℕ} (R : Rising all a i) where
+  pub rise_turn : i < all → Rising all (set a i i) (i + 1)
   rise_turn h =
       let f = R.few in
       let l = R.long in
       let k : i < length a = omega arith in
-      let q = R.next in
       record {
         to = omega arith;
         few = f;
-        next = omega arith;
-        long = length-set a i x ∙ l;
-        front = rw (add-one, q) (take-suc-set a i i k ∙ ap (λ (l : List ℕ). l ++ (i ∷ [])) R.front ∙ sym (table_last i (λ v. v)));
+        long = length-set a i i ∙ l;
+        front = rw add-one (take-suc-set a i i k ∙ ap (λ (l : List ℕ). l ++ (i ∷ [])) R.front ∙ sym (table_last i (λ v. v)));
       }
 
   pub rise_done : all ≤ i → take all a ≡ up_to all
   rise_done h = let t = R.to in let e : i ≡ all = omega arith in rw e at R.front
 
-pub ruleset filling = (rules, mapping_start, mapping_turn, mapping_done, keeping_done, rise_start, rise_turn, rise_done)
+pub ruleset filling = (rules, mapping_start, mapping_turn, mapping_done, rise_start, rise_turn, rise_done)

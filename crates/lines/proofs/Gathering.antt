@@ -8,10 +8,10 @@ use borrow.Author.Rules.{rules}
 use lib.ListN.{length, take, drop, length-take, length-drop, drop_of_length-le}
 use Rattle.text.specs.declared.vocabulary.Word.{Word}
 use Rattle.text.specs.declared.vocabulary.Word.TheVariants.{Go}
-use Rattle.text.specs.Reads.{Searched}
-use Rattle.text.proofs.LineEnds.{ended, endless, part_short}
-use Rattle.lines.specs.declared.steps.Outcome.{Outcome}
-use Rattle.lines.specs.declared.steps.Outcome.TheVariants.{Next, Go as Goes, Bad}
+use Rattle.std.specs.Prelude.{Option, Some, None}
+use Rattle.text.specs.Reads.{Ends}
+use Rattle.text.proofs.LineEnds.{part_short}
+use Rattle.lines.specs.declared.steps.Outcome.TheVariants.{Next, Go as Goes}
 use Rattle.lines.specs.declared.steps.Stage.{Stage}
 use Rattle.lines.specs.declared.steps.Stage.TheVariants.{Plan as ForPlan}
 use Rattle.lines.specs.declared.steps.Typed.{Typed}
@@ -44,63 +44,57 @@ module _ {input : List ℕ} {st : Stage} {p : Typed} {at k : ℕ} {d f t : List 
   unfits : Misfit (typing_of p d f t) st (drop at input) → OpensAll input (bad (k + 1))
   unfits M = rw add-one (G.opens (bad (suc k)) (unfit M))
 
-module _ {input : List ℕ} {st : Stage} {p : Typed} {at e k : ℕ} {d f t : List ℕ} (S : Searched 10 input at e) (G : Gathering input st p at k d f t)
-    (h : at < length input) where
+module _ {input : List ℕ} {st : Stage} {p : Typed} {at k : ℕ} {d f t : List ℕ} (G : Gathering input st p at k d f t) (h : at < length input) where
   some : 0 < length (drop at input)
   some = rw length-drop (omega arith)
 
   -- without an LF there is no line
-  pub gather_endless : length input ≤ e → OpensAll input (bad (k + 1))
-  gather_endless i =
-      let n = endless S i in
+  pub gather_endless : (r : Option ℕ) → Ends 10 input at r → ((e : ℕ) → r ≡ Some e → ⊥) → OpensAll input (bad (k + 1))
+  gather_endless None n u =
       unfits G record { some_left = some; no_line_lem = λ w ns r st' t' L F. none_leads n L; no_go = λ r q L. none_leads n L }
+  gather_endless (Some e) E u = absurd (u e refl)
 
-  module _ (i : e < length input) where
+  module _ {e : ℕ} (E : Ends 10 input at (Some e)) where
     -- the line up to the LF
     the_line : List ℕ
     the_line = take (e - at) (drop at input)
 
     leads : {w : Word} {ns : List ℕ} → Spelt the_line w ns → Leads (drop at input) w ns (drop (suc e) input)
     unfolding the_line
-    leads = spelt_leads _ _ (ended S i).text
+    leads = spelt_leads _ _ E.text
 
     spelt : {w : Word} {ns r : List ℕ} → Leads (drop at input) w ns r → Spelt the_line w ns
     unfolding the_line
-    spelt = leads_spelt _ _ (ended S i).text S.passed
+    spelt = leads_spelt _ _ E.text E.line
 
-    module _ (d' f' t' : List ℕ) {r : Outcome} (L : LineTaken (take (e - at) (drop at input)) st p d f t r d' f' t') where
-      pub gather_bad : r ≡ Bad → OpensAll input (bad (k + 1))
+    module _ (d' f' t' : List ℕ) where
+      pub gather_bad : LineTaken (take (e - at) (drop at input)) st p d f t None d' f' t' → OpensAll input (bad (k + 1))
       unfolding the_line
-      gather_bad q =
-          let M : LineTaken (take (e - at) (drop at input)) st p d f t Bad d' f' t' = rw q at L in
-          unfits G record {
-            some_left = some;
-            no_line_lem = λ w ns r st' t' L F. (M w ns (spelt L)).no_line_lem st' t' F;
-            no_go = λ r q L. (M Go [] (spelt L)).no_go q refl;
-          }
+      gather_bad M = unfits G record {
+        some_left = some;
+        no_line_lem = λ w ns r st' t' L F. (M w ns (spelt L)).no_line_lem st' t' F;
+        no_go = λ r q L. (M Go [] (spelt L)).no_go q refl;
+      }
 
-      module _ (q : r ≡ Goes) where
-        go_line : LineTaken (take (e - at) (drop at input)) st p d f t Goes d' f' t'
-        go_line = rw q at L
-
+      module _ (L : LineTaken (take (e - at) (drop at input)) st p d f t (Some Goes) d' f' t') where
         pub gather_go : OpensAll input (opened (typing_of p d' f' t') (drop (e + 1) input) (k + 1))
         unfolding the_line
         gather_go =
-            let (w, ns, s, H) = go_line in
+            let (w, ns, s, H) = L in
             let m = H.same in
             let l = leads (rw (H.word, H.alone) at s) in
             let O = G.opens (opened (typing_of p d f t) (drop (suc e) input) (suc k)) (rw H.last (goes l)) in
             rw (m.durations, m.from, m.to, add-one e, add-one k) O
 
         pub gather_within : Within p d' f' t'
-        gather_within = let (w, ns, s, H) = go_line in let m = H.same in rw (m.durations, m.from, m.to) G.within
+        gather_within = let (w, ns, s, H) = L in let m = H.same in rw (m.durations, m.from, m.to) G.within
 
-      pub gather_turn : {st' : Stage} {p' : Typed} → r ≡ Next st' p' → Gathering input st' p' (e + 1) (k + 1) d' f' t'
+      pub gather_turn : {st' : Stage} {p' : Typed} → LineTaken (take (e - at) (drop at input)) st p d f t (Some (Next st' p')) d' f' t'
+          → Gathering input st' p' (e + 1) (k + 1) d' f' t'
       unfolding the_line
-      gather_turn {st'} {p'} q =
-          let N : LineTaken (take (e - at) (drop at input)) st p d f t (Next st' p') d' f' t' = rw q at L in
-          let (w, ns, s, T) = N in
-          let a = S.ahead in
+      gather_turn {st'} {p'} (w, ns, s, T) =
+          let a = E.ahead in
+          let i = E.within in
           let y = G.few in
           let z = G.lines in
           let l : length (take (e - at) (drop at input)) ≡ e - at = rw (length-take, length-drop) (omega arith) in

@@ -10,15 +10,14 @@ use lib.ListN.{length, get_or, set, take, drop, replicate, length-set, length-re
 use lib.Seq.{sets, sets-eq, length-sets, length-take-le, take-append_seam, take-suc-set}
 use Rattle.text.specs.declared.vocabulary.Word.{Word}
 use Rattle.text.specs.declared.vocabulary.Word.TheVariants.{Plan, Dur, Fix, Go}
-use Rattle.text.specs.declared.parses.Line.{Line}
-use Rattle.text.specs.declared.parses.Line.TheVariants.{Is as Says, Bad as Unfit}
+use Rattle.std.specs.Prelude.{Option, Some, None}
 use Rattle.text.specs.Grammar.{fitted, fits_of}
-use Rattle.text.specs.Reads.{Parsed, Unparsable, Parses}
+use Rattle.text.specs.Reads.{Parsed, Parses}
 use Rattle.lines.specs.declared.steps.Stage.{Stage}
 use Rattle.lines.specs.declared.steps.Stage.TheVariants.{Plan as ForPlan, Durations, Fixed}
 use Rattle.lines.specs.declared.steps.Typed.{Typed}
 use Rattle.lines.specs.declared.steps.Outcome.{Outcome}
-use Rattle.lines.specs.declared.steps.Outcome.TheVariants.{Next, Go as Goes, Bad}
+use Rattle.lines.specs.declared.steps.Outcome.TheVariants.{Next, Go as Goes}
 use Rattle.lines.specs.Opens.{Typing, typing, Fits, plan, dur, fix}
 use Rattle.lines.specs.Sizes.{most_numbers}
 use Rattle.lines.specs.Lines.{Spelt}
@@ -77,9 +76,15 @@ misses st other still = record { no_line_lem = λ st' t' F. other (fits_tell F);
 kept : (ns d : List ℕ) → length ns ≤ length d → take (length ns) (sets d 0 ns) ≡ ns
 kept ns d h = ap (take (length ns)) (sets-eq ns d 0 (omega arith)) ∙ take-append_seam ns (drop (0 + length ns) d)
 
+-- what is written in front at once
+pub front_set : (ns d : List ℕ) {ys : List ℕ} → ys ≡ ns → length ns ≤ length d → ys ++ drop (length ns) d ≡ sets d 0 ns
+front_set ns d e h =
+    let z : 0 + length ns ≡ length ns = omega arith in
+    ap (λ (l : List ℕ). l ++ drop (length ns) d) e ∙ sym (sets-eq ns d 0 (omega arith) ∙ ap (λ (n : ℕ). ns ++ drop n d) z)
+
 module _ {w : Word} {ns : List ℕ} where
   pub plan_taken : {n o : ℕ} → w ≡ Plan → fits_of w (length ns) ≡ true → n ≡ get_or ns 0 0 → o ≡ get_or ns 1 0
-      → Planned w ns (Next Durations (record { jobs = n; owners = o; durations = 0; fixed = 0 }))
+      → Planned w ns (Some (Next Durations (record { jobs = n; owners = o; durations = 0; fixed = 0 })))
   plan_taken e k q r = record {
     is = λ p d f t.
         let two = two_are ns (count_is (length ns) 2 e refl k) in
@@ -90,12 +95,12 @@ module _ {w : Word} {ns : List ℕ} where
         };
   }
 
-  pub plan_missed : (w ≡ Plan → ⊥) → Planned w ns Bad
+  pub plan_missed : (w ≡ Plan → ⊥) → Planned w ns None
   plan_missed n = record { is = λ p d f t. misses ForPlan n (λ g. g) }
 
   module _ {p : Typed} {d : List ℕ} where
     pub dur_taken : {d' : List ℕ} → d' ≡ sets d 0 ns → w ≡ Dur → length ns ≡ p.jobs → length ns ≤ length d
-        → Timed w ns p d (Next Fixed (record { jobs = p.jobs; owners = p.owners; durations = length ns; fixed = p.fixed })) d'
+        → Timed w ns p d (Some (Next Fixed (record { jobs = p.jobs; owners = p.owners; durations = length ns; fixed = p.fixed }))) d'
     dur_taken s e g h = record {
       is = λ f t. record {
         fits = rw (e, s, kept ns d h) (dur g);
@@ -104,16 +109,16 @@ module _ {w : Word} {ns : List ℕ} where
       };
     }
 
-    pub dur_other : (length ns ≡ p.jobs → ⊥) → Timed w ns p d Bad d
+    pub dur_other : (length ns ≡ p.jobs → ⊥) → Timed w ns p d None d
     dur_other n = record { is = λ f t. misses Durations (λ (e, g). n g) (λ g. g) }
 
-    pub dur_missed : (w ≡ Dur → ⊥) → Timed w ns p d Bad d
+    pub dur_missed : (w ≡ Dur → ⊥) → Timed w ns p d None d
     dur_missed n = record { is = λ f t. misses Durations (λ (e, g). n e) (λ g. g) }
 
   module _ {p : Typed} {f t : List ℕ} where
     pub fix_taken : {x y : ℕ} → x ≡ fitted (get_or ns 0 0) → y ≡ fitted (get_or ns 1 0) → w ≡ Fix → fits_of w (length ns) ≡ true
         → (p.fixed < length f) × (p.fixed < length t)
-        → Tied w ns p f t (Next Fixed (record { jobs = p.jobs; owners = p.owners; durations = p.durations; fixed = p.fixed + 1 }))
+        → Tied w ns p f t (Some (Next Fixed (record { jobs = p.jobs; owners = p.owners; durations = p.durations; fixed = p.fixed + 1 })))
         (set f p.fixed x) (set t p.fixed y)
     fix_taken {x} {y} a b e k (h, i) = record {
       is = λ d.
@@ -125,7 +130,7 @@ module _ {w : Word} {ns : List ℕ} where
           };
     }
 
-    pub fix_goes : w ≡ Go → fits_of w (length ns) ≡ true → Tied w ns p f t Goes f t
+    pub fix_goes : w ≡ Go → fits_of w (length ns) ≡ true → Tied w ns p f t (Some Goes) f t
     fix_goes e k = record {
       is = λ d. record {
         word = e;
@@ -135,11 +140,11 @@ module _ {w : Word} {ns : List ℕ} where
       };
     }
 
-    pub fix_missed : (w ≡ Fix → ⊥) → (w ≡ Go → ⊥) → Tied w ns p f t Bad f t
+    pub fix_missed : (w ≡ Fix → ⊥) → (w ≡ Go → ⊥) → Tied w ns p f t None f t
     fix_missed n m = record { is = λ d. misses Fixed n m }
 
 -- the stage is told
-module _ {w : Word} {ns : List ℕ} {st : Stage} (p : Typed) (d f t : List ℕ) {r : Outcome} where
+module _ {w : Word} {ns : List ℕ} {st : Stage} (p : Typed) (d f t : List ℕ) {r : Option Outcome} where
   pub as_plan : Planned w ns r → st ≡ ForPlan → Taken w ns st p d f t r d f t
   as_plan P e = rw e (P.is p d f t)
 
@@ -151,54 +156,53 @@ module _ {w : Word} {ns : List ℕ} {st : Stage} (p : Typed) (d f t : List ℕ) 
 
 -- ── a line ──
 
-module _ {line out out' : List ℕ} {x : Line} (P : Parses line out out' x) where
-  -- one that is no text of the grammar
-  pub unparsed : x ≡ Unfit → (w : Word) (ns : List ℕ) → Spelt line w ns → ⊥
-  unparsed q w ns S = let u : Unparsable line = rw q at P.means in u w ns S.below S.fits S.text
+-- one that is no text of the grammar
+pub unparsed : {line out out' : List ℕ} → Parses line out out' None → (w : Word) (ns : List ℕ) → Spelt line w ns → ⊥
+unparsed P w ns S = P.means w ns S.below S.fits S.text
 
-  -- the numbers of one that is
-  module _ {w : Word} {k : ℕ} (q : x ≡ Says w k) where
-    told : Parsed line out out' w k
-    told = rw q at P.means
+-- the numbers of one that is
+module _ {line out out' : List ℕ} {w : Word} {k : ℕ} (P : Parses line out out' (Some (w, k))) where
+  told : Parsed line out out' w k
+  told = P.means
 
-    pub numbers_within : k ≤ length out'
-    numbers_within = let s = told.same in let h = told.within in omega arith
+  pub numbers_within : k ≤ length out'
+  numbers_within = let s = told.same in let h = told.within in omega arith
 
-    pub numbers_long : length (take k out') ≡ k
-    numbers_long = length-take-le k out' numbers_within
+  pub numbers_long : length (take k out') ≡ k
+  numbers_long = length-take-le k out' numbers_within
 
-    pub numbers_fit : fits_of w (length (take k out')) ≡ true
-    numbers_fit = ap (fits_of w) numbers_long ∙ told.fits
+  pub numbers_fit : fits_of w (length (take k out')) ≡ true
+  numbers_fit = ap (fits_of w) numbers_long ∙ told.fits
 
-    pub numbers_spelt : Spelt line w (take k out')
-    numbers_spelt = record { text = told.text; below = told.below; fits = numbers_fit }
+  pub numbers_spelt : Spelt line w (take k out')
+  numbers_spelt = record { text = told.text; below = told.below; fits = numbers_fit }
 
 -- no more than there are places
-module _ {line out' : List ℕ} {x : Line} {w : Word} (k : ℕ) (P : Parses line (replicate most_numbers 0) out' x) (q : x ≡ Says w k) where
+module _ {line out' : List ℕ} {w : Word} (k : ℕ) (P : Parses line (replicate most_numbers 0) out' (Some (w, k))) where
   pub numbers_most : length (take k out') ≤ most_numbers
   numbers_most =
-      let e = numbers_long P q in
-      let h = (told P q).within in
+      let e = numbers_long P in
+      let h = (told P).within in
       let l = length-replicate {A = ℕ} most_numbers 0 in
       omega arith
 
   pub numbers_few : (d : List ℕ) → most_numbers ≤ length d → length (take k out') ≤ length d
   numbers_few d h = let m = numbers_most in omega arith
 
-pub line_missed : {line out out' : List ℕ} {x : Line} (st : Stage) (p : Typed) (d f t : List ℕ) → Parses line out out' x → x ≡ Unfit
-    → LineTaken line st p d f t Bad d f t
-line_missed st p d f t P q w ns S = absurd (unparsed P q w ns S)
+pub line_missed : {line out out' : List ℕ} (st : Stage) (p : Typed) (d f t : List ℕ) → Parses line out out' None
+    → LineTaken line st p d f t None d f t
+line_missed st p d f t P w ns S = absurd (unparsed P w ns S)
 
-pub line_taken : {line ns : List ℕ} {w : Word} → Spelt line w ns → (st : Stage) (p : Typed) (d f t : List ℕ) (r : Outcome) (d' f' t' : List ℕ)
+pub line_taken : {line ns : List ℕ} {w : Word} → Spelt line w ns → (st : Stage) (p : Typed) (d f t : List ℕ) (r : Option Outcome) (d' f' t' : List ℕ)
     → Taken w ns st p d f t r d' f' t' → LineTaken line st p d f t r d' f' t'
-line_taken {ns = ns} {w = w} S st p d f t (Next st' p') d' f' t' T = (w, ns, S, T)
-line_taken {ns = ns} {w = w} S st p d f t Goes d' f' t' T = (w, ns, S, T)
-line_taken S st p d f t Bad d' f' t' T = λ v ms U. let (e, g) = spelt_same S U in rw (← e, ← g) T
+line_taken {ns = ns} {w = w} S st p d f t (Some (Next st' p')) d' f' t' T = (w, ns, S, T)
+line_taken {ns = ns} {w = w} S st p d f t (Some Goes) d' f' t' T = (w, ns, S, T)
+line_taken S st p d f t None d' f' t' T = λ v ms U. let (e, g) = spelt_same S U in rw (← e, ← g) T
 
 -- by what was parsed
-pub line_by : {line out out' : List ℕ} {x : Line} {w : Word} {k : ℕ} (st : Stage) (p : Typed) (d f t : List ℕ) (r : Outcome) (d' f' t' : List ℕ)
-    → Taken w (take k out') st p d f t r d' f' t' → Parses line out out' x → x ≡ Says w k → LineTaken line st p d f t r d' f' t'
-line_by st p d f t r d' f' t' T P q = line_taken (numbers_spelt P q) st p d f t r d' f' t' T
+pub line_by : {line out out' : List ℕ} {w : Word} {k : ℕ} (st : Stage) (p : Typed) (d f t : List ℕ) (r : Option Outcome) (d' f' t' : List ℕ)
+    → Taken w (take k out') st p d f t r d' f' t' → Parses line out out' (Some (w, k)) → LineTaken line st p d f t r d' f' t'
+line_by st p d f t r d' f' t' T P = line_taken (numbers_spelt P) st p d f t r d' f' t' T
 
 pub ruleset stepping = (
   rules,

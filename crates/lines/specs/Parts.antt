@@ -1,5 +1,5 @@
 -- What the parts of a line's answer promise. Assumes nothing.
-use Rattle.std.specs.Prelude.{ℕ, ◌+◌, ◌*◌, ◌≤◌, ◌<◌, ◌≡◌, List, length}
+use Rattle.std.specs.Prelude.{ℕ, ◌+◌, ◌*◌, ◌≤◌, ◌<◌, ◌≡◌, Option, Some, None, List, length}
 use Rattle.rules.specs.declared.Block.{Block}
 use Rattle.rules.specs.Sizes.{most_jobs, most_entries}
 use Rattle.rules.specs.Routes.{State}
@@ -10,8 +10,6 @@ use Rattle.text.specs.Answers.{reply_text, block_lines, line_length}
 use Rattle.stores.specs.Promise.{Slices, call_of, StandsFor}
 use Rattle.blocks.specs.declared.blocks.Found.{Found}
 use Rattle.blocks.specs.Promise.{Leads}
-use Rattle.lines.specs.declared.calls.Called.{Called}
-use Rattle.lines.specs.declared.calls.Called.TheVariants.{Next, Bad}
 use Rattle.lines.specs.Sizes.{long_line}
 use Rattle.lines.specs.Lines.{Spelt}
 use Rattle.lines.specs.Serves.{Asks}
@@ -55,11 +53,11 @@ pub record Untouched (s s' : Slices) (out out' : List ℕ) : Type 0 where
   pub store : s' ≡ s
   pub bytes : out' ≡ out
 
-abbrev pub Calls : Word → List ℕ → ℕ → Slices → Slices → List ℕ → Called → List ℕ → Type 0
-Calls w ns o s s' out (Next r) out' = Asked w ns o s s' out r out'
-Calls w ns o s s' out Bad out' = ((q : Request) → Asks o w ns q → ⊥) × Untouched s s' out out'
+abbrev pub Calls : Word → List ℕ → ℕ → Slices → Slices → List ℕ → Option ℕ → List ℕ → Type 0
+Calls w ns o s s' out (Some r) out' = Asked w ns o s s' out r out'
+Calls w ns o s s' out None out' = ((q : Request) → Asks o w ns q → ⊥) × Untouched s s' out out'
 
-abbrev pub LineCalls : List ℕ → ℕ → Slices → Slices → List ℕ → Called → List ℕ → Type 0
-LineCalls line o s s' out (Next r) out' = (w : Word) × (ns : List ℕ) × Spelt line w ns × Asked w ns o s s' out r out'
-LineCalls line o s s' out Bad out' =
+abbrev pub LineCalls : List ℕ → ℕ → Slices → Slices → List ℕ → Option ℕ → List ℕ → Type 0
+LineCalls line o s s' out (Some r) out' = (w : Word) × (ns : List ℕ) × Spelt line w ns × Asked w ns o s s' out r out'
+LineCalls line o s s' out None out' =
     ((w : Word) (ns : List ℕ) (q : Request) → Spelt line w ns → Asks o w ns q → ⊥) × Untouched s s' out out'

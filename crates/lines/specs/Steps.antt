@@ -1,14 +1,13 @@
 -- What the functions that read the lines up to `go` promise. Assumes nothing.
-use Rattle.std.specs.Prelude.{ℕ, suc, ◌+◌, ◌*◌, ◌≤◌, ◌≡◌, List, [], length, take, drop}
+use Rattle.std.specs.Prelude.{ℕ, suc, ◌+◌, ◌*◌, ◌≤◌, ◌≡◌, Option, Some, None, Result, Ok, Err, List, [], length, take, drop}
 use Rattle.text.specs.declared.vocabulary.Word.{Word}
 use Rattle.text.specs.declared.vocabulary.Word.TheVariants.{Fix, Go}
 use Rattle.lines.specs.declared.steps.Stage.{Stage}
 use Rattle.lines.specs.declared.steps.Stage.TheVariants.{Plan as ForPlan, Durations, Fixed}
 use Rattle.lines.specs.declared.steps.Typed.{Typed}
 use Rattle.lines.specs.declared.steps.Outcome.{Outcome}
-use Rattle.lines.specs.declared.steps.Outcome.TheVariants.{Next, Go as Goes, Bad}
-use Rattle.lines.specs.declared.opens.Gathered.{Gathered}
-use Rattle.lines.specs.declared.opens.Gathered.TheVariants.{Go as Opened, Bad as Unfit, Ends}
+use Rattle.lines.specs.declared.steps.Outcome.TheVariants.{Next, Go as Goes}
+use Rattle.lines.specs.declared.opens.Go.{Go as Opened}
 use Rattle.lines.specs.Lines.{Spelt}
 use Rattle.lines.specs.Opens.{Typing, typing, Fits, OpensAll, opened, bad, nothing}
 
@@ -48,35 +47,35 @@ pub record Misses (w : Word) (ns : List ℕ) (st : Stage) (p : Typed) (d f t : L
   pub no_line_lem : (st' : Stage) (t' : Typing) → Fits (typing_of p d f t) st w ns st' t' → ⊥
   pub no_go : st ≡ Fixed → w ≡ Go → ⊥
 
-abbrev pub Taken : Word → List ℕ → Stage → Typed → List ℕ → List ℕ → List ℕ → Outcome → List ℕ → List ℕ → List ℕ → Type 0
-Taken w ns st p d f t (Next st' p') d' f' t' = Takes w ns st p d f t st' p' d' f' t'
-Taken w ns st p d f t Goes d' f' t' = Halts w ns st d f t d' f' t'
-Taken w ns st p d f t Bad d' f' t' = Misses w ns st p d f t
+abbrev pub Taken : Word → List ℕ → Stage → Typed → List ℕ → List ℕ → List ℕ → Option Outcome → List ℕ → List ℕ → List ℕ → Type 0
+Taken w ns st p d f t (Some (Next st' p')) d' f' t' = Takes w ns st p d f t st' p' d' f' t'
+Taken w ns st p d f t (Some Goes) d' f' t' = Halts w ns st d f t d' f' t'
+Taken w ns st p d f t None d' f' t' = Misses w ns st p d f t
 
 -- as the first line, behind `plan`, and behind `dur`
-pub record Planned (w : Word) (ns : List ℕ) (r : Outcome) : Type 0 where
+pub record Planned (w : Word) (ns : List ℕ) (r : Option Outcome) : Type 0 where
   pub is : (p : Typed) (d f t : List ℕ) → Taken w ns ForPlan p d f t r d f t
 
-pub record Timed (w : Word) (ns : List ℕ) (p : Typed) (d : List ℕ) (r : Outcome) (d' : List ℕ) : Type 0 where
+pub record Timed (w : Word) (ns : List ℕ) (p : Typed) (d : List ℕ) (r : Option Outcome) (d' : List ℕ) : Type 0 where
   pub is : (f t : List ℕ) → Taken w ns Durations p d f t r d' f t
 
-pub record Tied (w : Word) (ns : List ℕ) (p : Typed) (f t : List ℕ) (r : Outcome) (f' t' : List ℕ) : Type 0 where
+pub record Tied (w : Word) (ns : List ℕ) (p : Typed) (f t : List ℕ) (r : Option Outcome) (f' t' : List ℕ) : Type 0 where
   pub is : (d : List ℕ) → Taken w ns Fixed p d f t r d f' t'
 
 -- ── a line ──
 
 -- a word and numbers that are its text were taken; or whichever are, miss
-abbrev pub LineTaken : List ℕ → Stage → Typed → List ℕ → List ℕ → List ℕ → Outcome → List ℕ → List ℕ → List ℕ → Type 0
-LineTaken line st p d f t (Next st' p') d' f' t' =
+abbrev pub LineTaken : List ℕ → Stage → Typed → List ℕ → List ℕ → List ℕ → Option Outcome → List ℕ → List ℕ → List ℕ → Type 0
+LineTaken line st p d f t (Some (Next st' p')) d' f' t' =
     (w : Word) × (ns : List ℕ) × Spelt line w ns × Takes w ns st p d f t st' p' d' f' t'
-LineTaken line st p d f t Goes d' f' t' = (w : Word) × (ns : List ℕ) × Spelt line w ns × Halts w ns st d f t d' f' t'
-LineTaken line st p d f t Bad d' f' t' = (w : Word) (ns : List ℕ) → Spelt line w ns → Misses w ns st p d f t
+LineTaken line st p d f t (Some Goes) d' f' t' = (w : Word) × (ns : List ℕ) × Spelt line w ns × Halts w ns st d f t d' f' t'
+LineTaken line st p d f t None d' f' t' = (w : Word) (ns : List ℕ) → Spelt line w ns → Misses w ns st p d f t
 
 -- ── all lines ──
 
 -- a line has a byte or more, so there are no more lines than bytes
-abbrev pub ComesTo : List ℕ → Gathered → List ℕ → List ℕ → List ℕ → Type 0
-ComesTo input (Opened p at k) d f t =
-    OpensAll input (opened (typing_of p d f t) (drop at input) k) × (at ≤ length input) × (k ≤ at) × Within p d f t
-ComesTo input (Unfit k) d f t = OpensAll input (bad k)
-ComesTo input Ends d f t = OpensAll input nothing
+abbrev pub ComesTo : List ℕ → Result (Option Opened) ℕ → List ℕ → List ℕ → List ℕ → Type 0
+ComesTo input (Ok (Some g)) d f t =
+    OpensAll input (opened (typing_of g.plan d f t) (drop g.at input) g.line) × (g.at ≤ length input) × (g.line ≤ g.at) × Within g.plan d f t
+ComesTo input (Ok None) d f t = OpensAll input nothing
+ComesTo input (Err k) d f t = OpensAll input (bad k)

@@ -20,22 +20,13 @@ use text::answers::{no, ok};
 use text::fields::narrow;
 use text::vocabulary::Word;
 
-// What a line comes to: how many bytes it answers.
-#[derive(Clone, Copy)]
-pub enum Called {
-    Next(usize),
-    Bad,
-}
-
 // Each number as the library takes it, in front of the list.
 fn narrow_all(numbers: &[u64], list: &mut [u32])
     requires { length numbers.now ≤ length list.old }
     ensures { list.new ≡ sets list.old 0 (map fitted numbers.now) }
 {
-    let mut i: usize = 0;
-    while i < numbers.len() {
-        list[i] = narrow(numbers[i]);
-        i += 1;
+    for (i, x) in numbers.iter().enumerate() {
+        list[i] = narrow(*x);
     }
 }
 
@@ -88,7 +79,7 @@ fn cut(
     }
 }
 
-// `put`, `cut`, `show` and `crit` fit.
+// `put`, `cut`, `show` and `crit` fit: how many bytes they answer.
 pub(crate) fn call(
     word: Word,
     numbers: &[u64],
@@ -99,7 +90,7 @@ pub(crate) fn call(
     routes: &mut [u16],
     times: &mut [u64],
     out: &mut [u8],
-) -> Called
+) -> Option<usize>
     requires { (fits_of word (length numbers.now) ≡ true) × (length numbers.now ≤ most_numbers) × (longest_answer ≤ length out.old) }
     ensures { Calls word numbers.now owners
         (slices base.now spans.now edges.old routes.old times.old)
@@ -107,10 +98,10 @@ pub(crate) fn call(
         out.old result out.new }
 {
     match word {
-        Word::Put => Called::Next(put(base, spans, edges, routes, times, numbers, out)),
-        Word::Cut => Called::Next(cut(base, spans, &edges[..], routes, &times[..], numbers, out)),
-        Word::Show => Called::Next(show(base, spans, &edges[..], &routes[..], &times[..], out)),
-        Word::Crit => Called::Next(crit(
+        Word::Put => Some(put(base, spans, edges, routes, times, numbers, out)),
+        Word::Cut => Some(cut(base, spans, &edges[..], routes, &times[..], numbers, out)),
+        Word::Show => Some(show(base, spans, &edges[..], &routes[..], &times[..], out)),
+        Word::Crit => Some(crit(
             base,
             spans,
             &edges[..],
@@ -119,6 +110,6 @@ pub(crate) fn call(
             owners,
             out,
         )),
-        _ => Called::Bad,
+        _ => None,
     }
 }

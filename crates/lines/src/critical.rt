@@ -8,7 +8,6 @@ ghost use Rattle.lines.specs.Sizes.{longest_answer};
 ghost use Rattle.lines.specs.Answers.{Answers, call, up_to};
 ghost use Rattle.lines.specs.Parts.{ListsBlocks};
 
-use crate::least;
 use blocks::blocks::{Blocked, Found, next, search};
 use rules::Plan;
 use text::answers::{block, line, no};
@@ -18,13 +17,9 @@ fn rising(owners: &mut [u32], n: u32) -> usize
     requires { length owners.old ≡ most_owners }
     ensures { (result ≡ min n most_owners) × (take result owners.new ≡ up_to result) }
 {
-    let all = least(n as usize, Plan::OWNERS);
-    let mut i: usize = 0;
-    let mut x: u32 = 0;
-    while i < all {
-        owners[i] = x;
-        i += 1;
-        x += 1;
+    let all = (n as usize).min(Plan::OWNERS);
+    for i in 0..all {
+        owners[i] = i as u32;
     }
     all
 }
@@ -46,14 +41,11 @@ fn block_lines(
         (slices base.now spans.now edges.now routes.now times.now) found
         out.old at result out.new }
 {
-    let f = found;
-    let mut spot = f.spot;
+    let mut spot = found.spot;
     let mut p = at;
-    let mut i: usize = 0;
-    while i < f.count {
-        spot = next(base, spans, edges, routes, times, owners, f, spot);
+    for _ in 0..found.count {
+        spot = next(base, spans, edges, routes, times, owners, found, spot);
         p = block(out, p, spot.block);
-        i += 1;
     }
     p
 }

@@ -9,7 +9,7 @@ pub mod shows;
 pub mod steps;
 pub mod turns;
 
-ghost use Rattle.std.specs.Prelude.{min, ◌≡◌, get_or};
+ghost use Rattle.std.specs.Prelude.{◌≡◌, get_or};
 ghost use Rattle.text.specs.Grammar.{fitted};
 
 use rules::Plan;
@@ -31,10 +31,7 @@ pub const ANSWER: usize = 96 * Plan::ENTRIES;
 fn number_at(numbers: &[u64], i: usize) -> u64
     ensures { result ≡ get_or numbers.now i 0 }
 {
-    if i < numbers.len() {
-        return numbers[i];
-    }
-    0
+    numbers.get(i).copied().unwrap_or(0)
 }
 
 // The same, as the library takes it.
@@ -42,10 +39,4 @@ fn fitted_at(numbers: &[u64], i: usize) -> u32
     ensures { result ≡ fitted (get_or numbers.now i 0) }
 {
     narrow(number_at(numbers, i))
-}
-
-fn least(a: usize, b: usize) -> usize
-    ensures { result ≡ min a b }
-{
-    if a < b { a } else { b }
 }

@@ -4,17 +4,23 @@ ghost use Rattle.lines.specs.Sizes.{input_limit, most_numbers, most_fixes};
 ghost use Rattle.lines.specs.Steps.{ComesTo};
 
 use crate::steps::{Outcome, Stage, Typed, step};
-use text::ends::find;
+use text::ends::line_end;
 
-// What the lines come to: a plan, with the place behind `go` and the number of its line; a line that doesn't fit; or the input ends before `go`.
+// What was typed up to `go`, the place behind it and the number of its line.
 #[derive(Clone, Copy)]
-pub enum Gathered {
-    Go(Typed, usize, u64),
-    Bad(u64),
-    Ends,
+pub struct Go {
+    pub plan: Typed,
+    pub at: usize,
+    pub line: u64,
 }
 
-pub fn gather(input: &[u8], durations: &mut [u64], from: &mut [u32], to: &mut [u32]) -> Gathered
+// What the lines come to: `go`; nothing, where the input ends before it; or the number of a line that doesn't fit.
+pub fn gather(
+    input: &[u8],
+    durations: &mut [u64],
+    from: &mut [u32],
+    to: &mut [u32],
+) -> Result<Option<Go>, u64>
     requires sizes { (length input.now ≤ input_limit) × (most_numbers ≤ length durations.old) }
     requires room { (most_fixes ≤ length from.old) × (most_fixes ≤ length to.old) }
     ensures { ComesTo input.now result durations.new from.new to.new }
@@ -28,21 +34,27 @@ pub fn gather(input: &[u8], durations: &mut [u64], from: &mut [u32], to: &mut [u
     };
     let mut at: usize = 0;
     let mut line: u64 = 0;
+    // A `while`: a turn goes as far as its line.
     while at < input.len() {
         line += 1;
-        let e = find(input, at, b'\n');
-        if input.len() <= e {
-            return Gathered::Bad(line);
-        }
+        let Some(e) = line_end(input, at) else {
+            return Err(line);
+        };
         match step(&input[at..e], stage, plan, durations, from, to) {
-            Outcome::Bad => return Gathered::Bad(line),
-            Outcome::Go => return Gathered::Go(plan, e + 1, line),
-            Outcome::Next(s, p) => {
+            None => return Err(line),
+            Some(Outcome::Go) => {
+                return Ok(Some(Go {
+                    plan,
+                    at: e + 1,
+                    line,
+                }));
+            }
+            Some(Outcome::Next(s, p)) => {
                 stage = s;
                 plan = p;
                 at = e + 1;
             }
         }
     }
-    Gathered::Ends
+    Ok(None)
 }

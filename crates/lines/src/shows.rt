@@ -5,7 +5,6 @@ ghost use Rattle.lines.specs.Sizes.{long_line, longest_answer};
 ghost use Rattle.lines.specs.Answers.{Answers, whole_show};
 ghost use Rattle.lines.specs.Parts.{ShowsStarts, ShowsVerdict};
 
-use crate::least;
 use refresh::reported::Started;
 use refresh::score::Counted;
 use refresh::verdict::{Judged, verdict};
@@ -31,7 +30,7 @@ fn starts(
     match refresh::reported::starts(base, spans, edges, routes, times, &mut list) {
         Started::Refused(r) => no(out, at, r),
         Started::All(k) => {
-            let n = least(k, Plan::JOBS);
+            let n = k.min(Plan::JOBS);
             line(out, at, b"starts", &list[..n])
         }
     }
@@ -56,11 +55,11 @@ fn judged(
     match verdict(base, spans, edges, routes, times, &mut list) {
         Judged::Refused(r) => no(out, at, r),
         Judged::Cycle(k) => {
-            let n = least(k, Plan::JOBS);
+            let n = k.min(Plan::JOBS);
             jobs(out, at, b"cycle", &list[..n])
         }
         Judged::LineUp(k) => {
-            let n = least(k, Plan::JOBS);
+            let n = k.min(Plan::JOBS);
             let p = starts(base, spans, edges, routes, times, out, at);
             jobs(out, p, b"order", &list[..n])
         }

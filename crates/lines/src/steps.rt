@@ -1,12 +1,11 @@
 // One line up to `go`.
 ghost use Rattle.std.specs.Prelude.{◌≤◌, ◌<◌, ◌≡◌, true, length};
-ghost use Rattle.std.proofs.lemmas.List.Edits.{sets};
 ghost use Rattle.text.specs.Grammar.{fits_of};
 ghost use Rattle.lines.specs.Sizes.{input_limit, most_numbers};
 ghost use Rattle.lines.specs.Steps.{Planned, Timed, Tied, Taken, LineTaken};
 
 use crate::{NUMBERS, fitted_at, number_at};
-use text::parses::{Line, parse};
+use text::parses::parse;
 use text::vocabulary::Word;
 
 // Which lines may come now.
@@ -26,16 +25,15 @@ pub struct Typed {
     pub fixed: usize,
 }
 
-// What a line comes to.
+// What a line that fits comes to.
 #[derive(Clone, Copy)]
 pub enum Outcome {
     Next(Stage, Typed),
     Go,
-    Bad,
 }
 
 // `plan N O` alone fits.
-fn plan_line(word: Word, numbers: &[u64]) -> Outcome
+fn plan_line(word: Word, numbers: &[u64]) -> Option<Outcome>
     requires { fits_of word (length numbers.now) ≡ true }
     ensures { Planned word numbers.now result }
 {
@@ -47,49 +45,44 @@ fn plan_line(word: Word, numbers: &[u64]) -> Outcome
                 durations: 0,
                 fixed: 0,
             };
-            Outcome::Next(Stage::Durations, plan)
+            Some(Outcome::Next(Stage::Durations, plan))
         }
-        _ => Outcome::Bad,
-    }
-}
-
-// The numbers are kept in front of the table.
-fn keep(numbers: &[u64], table: &mut [u64])
-    requires { length numbers.now ≤ length table.old }
-    ensures { table.new ≡ sets table.old 0 numbers.now }
-{
-    let mut i: usize = 0;
-    while i < numbers.len() {
-        table[i] = numbers[i];
-        i += 1;
+        _ => None,
     }
 }
 
 // `dur` alone fits, with as many numbers as the plan has jobs.
-fn dur_line(word: Word, numbers: &[u64], plan: Typed, durations: &mut [u64]) -> Outcome
+fn dur_line(word: Word, numbers: &[u64], plan: Typed, durations: &mut [u64]) -> Option<Outcome>
     requires { length numbers.now ≤ length durations.old }
     ensures { Timed word numbers.now plan durations.old result durations.new }
 {
     if numbers.len() as u64 != plan.jobs {
-        return Outcome::Bad;
+        return None;
     }
     match word {
         Word::Dur => {
-            keep(numbers, durations);
-            let timed = Typed {
-                jobs: plan.jobs,
-                owners: plan.owners,
-                durations: numbers.len(),
-                fixed: plan.fixed,
-            };
-            Outcome::Next(Stage::Fixed, timed)
+            let n = numbers.len();
+            durations[..n].copy_from_slice(numbers);
+            Some(Outcome::Next(
+                Stage::Fixed,
+                Typed {
+                    durations: n,
+                    ..plan
+                },
+            ))
         }
-        _ => Outcome::Bad,
+        _ => None,
     }
 }
 
 // `fix A B` and `go` fit.
-fn fix_line(word: Word, numbers: &[u64], plan: Typed, from: &mut [u32], to: &mut [u32]) -> Outcome
+fn fix_line(
+    word: Word,
+    numbers: &[u64],
+    plan: Typed,
+    from: &mut [u32],
+    to: &mut [u32],
+) -> Option<Outcome>
     requires fits { fits_of word (length numbers.now) ≡ true }
     requires room { (plan.fixed < length from.old) × (plan.fixed < length to.old) }
     ensures { Tied word numbers.now plan from.old to.old result from.new to.new }
@@ -99,16 +92,16 @@ fn fix_line(word: Word, numbers: &[u64], plan: Typed, from: &mut [u32], to: &mut
         Word::Fix => {
             from[k] = fitted_at(numbers, 0);
             to[k] = fitted_at(numbers, 1);
-            let tied = Typed {
-                jobs: plan.jobs,
-                owners: plan.owners,
-                durations: plan.durations,
-                fixed: k + 1,
-            };
-            Outcome::Next(Stage::Fixed, tied)
+            Some(Outcome::Next(
+                Stage::Fixed,
+                Typed {
+                    fixed: k + 1,
+                    ..plan
+                },
+            ))
         }
-        Word::Go => Outcome::Go,
-        _ => Outcome::Bad,
+        Word::Go => Some(Outcome::Go),
+        _ => None,
     }
 }
 
@@ -121,7 +114,7 @@ fn word_step(
     durations: &mut [u64],
     from: &mut [u32],
     to: &mut [u32],
-) -> Outcome
+) -> Option<Outcome>
     requires fits { (fits_of word (length numbers.now) ≡ true) × (length numbers.now ≤ length durations.old) }
     requires room { (plan.fixed < length from.old) × (plan.fixed < length to.old) }
     ensures { Taken word numbers.now stage plan durations.old from.old to.old
@@ -142,15 +135,13 @@ pub(crate) fn step(
     durations: &mut [u64],
     from: &mut [u32],
     to: &mut [u32],
-) -> Outcome
+) -> Option<Outcome>
     requires sizes { (length line.now ≤ input_limit) × (most_numbers ≤ length durations.old) }
     requires room { (plan.fixed < length from.old) × (plan.fixed < length to.old) }
     ensures { LineTaken line.now stage plan durations.old from.old to.old
         result durations.new from.new to.new }
 {
     let mut numbers = [0u64; NUMBERS];
-    match parse(line, &mut numbers) {
-        Line::Bad => Outcome::Bad,
-        Line::Is(word, n) => word_step(word, &numbers[..n], stage, plan, durations, from, to),
-    }
+    let (word, n) = parse(line, &mut numbers)?;
+    word_step(word, &numbers[..n], stage, plan, durations, from, to)
 }

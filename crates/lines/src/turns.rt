@@ -6,10 +6,10 @@ ghost use Rattle.lines.specs.Serves.{Turns};
 ghost use Rattle.lines.specs.Parts.{LineCalls};
 
 use crate::NUMBERS;
-use crate::calls::{Called, call};
+use crate::calls::call;
 use text::answers::bad;
-use text::ends::find;
-use text::parses::{Line, parse};
+use text::ends::line_end;
+use text::parses::parse;
 
 // The place of the next line, and how many bytes go out before it.
 #[derive(Clone, Copy)]
@@ -18,7 +18,7 @@ pub struct Turn {
     pub bytes: usize,
 }
 
-// What a line without its LF comes to.
+// How many bytes a line without its LF answers, if it fits.
 fn answered(
     line: &[u8],
     owners: u32,
@@ -28,7 +28,7 @@ fn answered(
     routes: &mut [u16],
     times: &mut [u64],
     out: &mut [u8],
-) -> Called
+) -> Option<usize>
     requires { (length line.now ≤ input_limit) × (longest_answer ≤ length out.old) }
     ensures { LineCalls line.now owners
         (slices base.now spans.now edges.old routes.old times.old)
@@ -36,20 +36,18 @@ fn answered(
         out.old result out.new }
 {
     let mut numbers = [0u64; NUMBERS];
-    match parse(line, &mut numbers) {
-        Line::Bad => Called::Bad,
-        Line::Is(word, n) => call(
-            word,
-            &numbers[..n],
-            owners,
-            base,
-            spans,
-            edges,
-            routes,
-            times,
-            out,
-        ),
-    }
+    let (word, n) = parse(line, &mut numbers)?;
+    call(
+        word,
+        &numbers[..n],
+        owners,
+        base,
+        spans,
+        edges,
+        routes,
+        times,
+        out,
+    )
 }
 
 // The line that begins at a place and has this number. One that doesn't fit, or has no LF, is the last.
@@ -71,13 +69,12 @@ pub fn answer_line(
         (slices base.now spans.now edges.new routes.new times.new)
         out.old result out.new }
 {
-    let e = find(input, at, b'\n');
-    if input.len() <= e {
+    let Some(e) = line_end(input, at) else {
         return Turn {
             next: input.len(),
             bytes: bad(out, line),
         };
-    }
+    };
     match answered(
         &input[at..e],
         owners,
@@ -88,13 +85,10 @@ pub fn answer_line(
         times,
         out,
     ) {
-        Called::Bad => Turn {
+        Some(bytes) => Turn { next: e + 1, bytes },
+        None => Turn {
             next: input.len(),
             bytes: bad(out, line),
-        },
-        Called::Next(n) => Turn {
-            next: e + 1,
-            bytes: n,
         },
     }
 }

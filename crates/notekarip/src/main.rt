@@ -13,7 +13,7 @@ ghost use Rattle.lines.specs.Session.{RunPrints};
 ghost use Rattle.notekarip.specs.Prints.{Prints, Answers, Opened};
 
 use lines::goes::{go, loaded};
-use lines::opens::{Gathered, gather};
+use lines::opens::gather;
 use lines::steps::Typed;
 use lines::turns::answer_line;
 use lines::{ANSWER, FIXES, INPUT, NUMBERS};
@@ -127,13 +127,13 @@ fn run<W: Write>(output: &mut W, input: &[u8]) -> io::Result<()>
     let mut from = [0u32; FIXES];
     let mut to = [0u32; FIXES];
     match gather(input, &mut durations, &mut from, &mut to) {
-        Gathered::Ends => Ok(()),
-        Gathered::Bad(line) => refuse(output, line),
-        Gathered::Go(plan, at, line) => open(
+        Err(line) => refuse(output, line),
+        Ok(None) => Ok(()),
+        Ok(Some(go)) => open(
             output,
-            &input[at..],
-            line,
-            plan,
+            &input[go.at..],
+            go.line,
+            go.plan,
             &durations,
             &from,
             &to,

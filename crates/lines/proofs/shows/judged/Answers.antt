@@ -18,8 +18,8 @@ no-requires c = search showing
 pub enum_known-k : goal.enum_known-k
 enum_known-k c = search showing
 
-pub least-n-requires : goal.least-n-requires
-least-n-requires c = search showing
+pub min-n-requires : goal.min-n-requires
+min-n-requires c = search showing
 
 pub slice_bounds-list-end : goal.slice_bounds-list-end
 slice_bounds-list-end c = search showing
@@ -33,8 +33,8 @@ jobs-requires c = search showing
 pub enum_known-k-in-LineUp-1 : goal.enum_known-k-in-LineUp-1
 enum_known-k-in-LineUp-1 c = search showing
 
-pub least-n-requires-in-LineUp : goal.least-n-requires-in-LineUp
-least-n-requires-in-LineUp c = search showing
+pub min-n-requires-in-LineUp : goal.min-n-requires-in-LineUp
+min-n-requires-in-LineUp c = search showing
 
 pub starts-p-requires : goal.starts-p-requires
 starts-p-requires c = search showing
