@@ -1,12 +1,17 @@
 -- Lists laid one behind the other into a slice: what a load writes, and that these are a plan's words. Assumes nothing.
-use Prim.Native.Nat.{ℕ, zero, suc, ◌+◌, ◌-◌, ◌≤◌, ◌<◌}
+use Prim.Native.Nat.{ℕ, zero, suc, ◌+◌, ◌-◌, ◌≤◌}
 use native.Mathlib.Omega.{arith}
 use native.Mathlib.Nat.{add-zero, not-suc-le-zero}
-use native.Mathlib.Numerals.{add-one}
 use mathlib.Core.Path.{◌≡◌, refl, sym, ap, ◌∙◌}
 use mathlib.Core.List.{List, [], ◌∷◌, ◌++◌, map, append_assoc}
-use lib.ListN.{length, get_or, set, take, drop, replicate, length-append, length-replicate, drop_of_length-le}
-use lib.Seq.{sets, sets-eq, take-length, drop-cons}
+use mathlib.Core.Logic.{inl, inr}
+use lib.Dec.{leb}
+use lib.ListN.{length, get_or, set, take, drop, replicate, length-append, length-replicate}
+use lib.Seq.{sets, sets-eq}
+use borrow.Author.Tests.{lt-ltb, le-ltb, lt-leb, le-leb}
+use Rattle.std.specs.List.{count_by}
+use Rattle.std.proofs.lemmas.List.Recursion.{is_count_by}
+use Rattle.rules.proofs.Ranges.{lt_or_le}
 use Rattle.rules.specs.Lists.{Pair, table, sum_of}
 use Rattle.rules.specs.Sizes.{Loading, base_of, pair_up, nobodys, most_jobs, base_length, most_fixed, spans_length}
 use Rattle.rules.specs.Scores.{invalid_fixed}
@@ -15,14 +20,14 @@ use Rattle.stores.specs.Words.{padded, base_words, from_at, to_at, expected_at, 
 
 -- ── one list behind the other ──
 
-pub sets_append : (a x y : List ℕ) (i : ℕ) → sets (sets a i x) (i + length x) y ≡ sets a i (x ++ y)
+pub sets_append : {A : Type 0} (a x y : List A) (i : ℕ) → sets (sets a i x) (i + length x) y ≡ sets a i (x ++ y)
 sets_append a [] y i = rw add-zero
 sets_append a (v ∷ x) y i =
     let q : i + suc (length x) ≡ suc i + length x = omega arith in
     rw q (sets_append (set a i v) x y (suc i))
 
 -- a second list, written where the first ends
-pub behind : (a x y : List ℕ) (i j : ℕ) {b c : List ℕ} → b ≡ sets a i x → c ≡ sets b j y → j ≡ i + length x → c ≡ sets a i (x ++ y)
+pub behind : {A : Type 0} (a x y : List A) (i j : ℕ) {b c : List A} → b ≡ sets a i x → c ≡ sets b j y → j ≡ i + length x → c ≡ sets a i (x ++ y)
 behind a x y i j p q r = q ∙ rw (p, r) (sets_append a x y i)
 
 -- all from the front on
@@ -31,19 +36,14 @@ in_front a x k p q h = p ∙ sets-eq x a 0 (omega arith) ∙ ap (λ (n : ℕ). x
 
 -- ── a list, and one number up to a place ──
 
-module _ (a s : List ℕ) (at to x : ℕ) where
-  pub laid : {b c : List ℕ} {k : ℕ} → b ≡ sets a at (take k s) → c ≡ sets b (at + k) (replicate (to - (at + k)) x) → k ≡ length s
-      → c ≡ sets a at (s ++ replicate (to - (at + length s)) x)
-  laid p q r = behind a s (replicate (to - (at + length s)) x) at (at + length s) (p ∙ rw (r, take-length)) (q ∙ rw r) refl
-
 pub padded_length : (n : ℕ) (l : List ℕ) (x : ℕ) → length l ≤ n → length (l ++ replicate (n - length l) x) ≡ n
 padded_length n l x h = rw (length-append, length-replicate) (omega arith)
 
-pub spans_laid : (a s : List ℕ) {b c : List ℕ} → b ≡ sets a 0 (take (length s) s) → c ≡ sets b (length s) (replicate (spans_length - length s) 0)
-    → length s ≤ spans_length → spans_length ≤ length a → c ≡ padded spans_length s ++ drop spans_length a
-spans_laid a s p q h k =
-    let w = behind a s (replicate (spans_length - length s) 0) 0 (length s) (p ∙ rw take-length) q (omega arith) in
-    in_front a (padded spans_length s) spans_length w (padded_length spans_length s 0 h) k
+pub spans_laid : (a s : List ℕ) {b : List ℕ} → b ≡ sets a 0 (s ++ replicate (spans_length - (0 + length s)) 0)
+    → length s ≤ spans_length → spans_length ≤ length a → b ≡ padded spans_length s ++ drop spans_length a
+spans_laid a s p h k =
+    let e : spans_length - (0 + length s) ≡ spans_length - length s = omega arith in
+    in_front a (padded spans_length s) spans_length (rw e at p) (padded_length spans_length s 0 h) k
 
 -- ── the base ──
 
@@ -80,28 +80,14 @@ module _ (jobs owners : ℕ) (expected from to b₀ : List ℕ) where
       in_front b₀ (((hd ++ F) ++ T) ++ X) base_length s₄ l₄ w
       ∙ ap (λ (y : List ℕ). y ++ drop base_length b₀) (append_assoc (hd ++ F) T X ∙ append_assoc hd F (T ++ X))
 
--- ── how many fixed pairs lead nowhere: those below i are counted ──
+-- ── how many fixed pairs lead nowhere ──
 
-pub record Straying (n : ℕ) (l : List ℕ) (s i : ℕ) : Type 0 where
-  pub to : i ≤ length l
-  pub few : s ≤ i
-  pub left : s + strays n (drop i l) ≡ strays n l
-
-pub stray_none : (n : ℕ) (l : List ℕ) → Straying n l 0 0
-stray_none n l = record { to = omega arith; few = omega arith; left = omega arith }
-
-module _ {n : ℕ} {l : List ℕ} {s i : ℕ} (so_far : Straying n l s i) where
-  pub stray_turn : i < length l → {x : ℕ} → x ≡ stray_of n (get_or l i 0) → x ≤ 1 → Straying n l (s + x) (i + 1)
-  unfolding strays
-  stray_turn h q k = record {
-    to = omega arith;
-    few = omega arith;
-    left = rw add-one (let y = ap (sum_of (stray_of n)) (drop-cons l i 0 h) in let z = so_far.left in omega arith);
-  }
-
-  pub stray_done : length l ≤ i → s ≡ strays n l
-  unfolding strays
-  stray_done h = let y = ap (sum_of (stray_of n)) (drop_of_length-le l h) in let z = so_far.left in omega arith
+pub strays_count : (n : ℕ) (l : List ℕ) → strays n l ≡ count_by (leb n) l
+unfolding strays
+strays_count n = is_count_by (strays n) (leb n) refl (λ v l. elim (lt_or_le v n) [
+  | inl h ↦ rw (lt-ltb v n h, lt-leb n v h) (omega arith)
+  | inr h ↦ rw (le-ltb v n h, le-leb n v h) (omega arith)
+])
 
 -- ── what is laid are the words of the base that is loaded ──
 

@@ -1,58 +1,56 @@
--- Sums of words, one after the other. Assumes nothing.
+-- Sums of words. Assumes nothing.
 use Prim.Native.Nat.{ℕ, zero, suc, ◌+◌, ◌-◌, ◌*◌, ◌≤◌, ◌<◌}
 use native.Mathlib.Omega.{arith}
-use native.Mathlib.Numerals.{add-one}
 use mathlib.Core.Path.{◌≡◌, refl, ap, ◌∙◌}
-use mathlib.Core.List.{List}
-use lib.ListN.{length, get_or, drop, drop_of_length-le}
-use lib.Seq.{drop-cons}
+use mathlib.Core.List.{List, [], ◌∷◌}
+use lib.ListN.{length, get_or, take}
+use Rattle.std.specs.List.{sum, sum_by}
+use Rattle.std.proofs.lemmas.List.Sums.{sum_by-cons, sum_by_more}
 use Rattle.rules.specs.Scores.{assignment}
 use Rattle.stores.specs.Sums.{total, assignments_in, Summed, Tallied}
 
--- ── a row: its first i words are summed ──
+-- ── a row ──
 
-pub record Summing (l : List ℕ) (s i : ℕ) : Type 0 where
-  pub to : i ≤ length l
-  pub few : s ≤ 65535 * i
-  pub left : s + total (drop i l) ≡ total l
+sum_total : (l : List ℕ) → sum l ≡ total l
+sum_total [] = refl
+sum_total (x ∷ l) = sum_by-cons (λ (x : ℕ). x) x l ∙ ap (λ (k : ℕ). x + k) (sum_total l)
 
-pub sum_none : (l : List ℕ) → Summing l 0 0
-sum_none l = record { to = omega arith; few = omega arith; left = omega arith }
+total_few : (l : List ℕ) → ((i : ℕ) → get_or l i 0 < 65536) → total l ≤ 65535 * length l
+total_few [] h = omega arith
+total_few (x ∷ l) h = let a = h 0 in let b = total_few l (λ i. h (suc i)) in omega arith
 
-module _ {l : List ℕ} {s i : ℕ} (so_far : Summing l s i) where
-  pub sum_turn : i < length l → get_or l i 0 < 65536 → Summing l (s + get_or l i 0) (i + 1)
-  sum_turn h w = record {
-    to = omega arith;
-    few = let x = so_far.few in omega arith;
-    left = rw add-one (let x = ap total (drop-cons l i 0 h) in let y = so_far.left in omega arith);
-  }
+pub summed : (l : List ℕ) {r : ℕ} → r ≡ sum l → ((i : ℕ) → get_or l i 0 < 65536) → Summed l r
+summed l e h = record { is = e ∙ sum_total l; few = let a = total_few l h in omega (arith, e, sum_total l) }
 
-  pub sum_done : length l ≤ i → Summed l s
-  sum_done h =
-      let x = ap total (drop_of_length-le l {i = i} h) in
-      let y = so_far.to in
-      record { is = let z = so_far.left in omega arith; few = let z = so_far.few in omega arith }
+-- ── the first n jobs ──
 
--- ── the first n jobs: those below i are counted ──
-
-pub record Counting (a : List ℕ) (n s i : ℕ) : Type 0 where
-  pub to : i ≤ n
-  pub few : s ≤ 65535 * i
-  pub is : s ≡ assignments_in a i
-
-pub count_none : (a : List ℕ) (n : ℕ) → Counting a n 0 0
+assignments_sum : (a : List ℕ) (n : ℕ) → n ≤ length a → sum_by assignment (take n a) ≡ assignments_in a n
 unfolding assignments_in
-count_none a n = record { to = omega arith; few = omega arith; is = refl }
+assignments_sum a zero h = refl
+assignments_sum a (suc n) h =
+    let x = sum_by_more assignment a n 0 (omega arith) in
+    let y = assignments_sum a n (omega arith) in
+    let q : suc n ≡ n + 1 = omega arith in
+    rw q (x ∙ ap (λ (k : ℕ). k + assignment (get_or a n 0)) y)
 
-module _ {a : List ℕ} {n s i : ℕ} (so_far : Counting a n s i) where
-  pub count_turn : i < n → (x : ℕ) → x ≡ assignment (get_or a i 0) → x ≤ 65535 → Counting a n (s + x) (i + 1)
-  unfolding assignments_in
-  count_turn h x q k = record { to = omega arith; few = omega arith; is = rw add-one (let y = so_far.is in omega arith) }
+one_few : (c : ℕ) → c < 65536 → assignment c ≤ 65535
+one_few zero h = omega arith
+one_few (suc c) h = omega arith
 
-  pub count_done : n ≤ i → Tallied a n s
-  count_done h =
-      let q : i ≡ n = omega arith in
-      record { is = so_far.is ∙ ap (assignments_in a) q; few = omega arith }
+pub assignments_few : (a : List ℕ) (n : ℕ) → n ≤ length a → ((i : ℕ) → get_or a i 0 < 65536) → sum_by assignment (take n a) ≤ 65535 * n
+assignments_few a zero h w = omega arith
+assignments_few a (suc n) h w =
+    let x = sum_by_more assignment a n 0 (omega arith) in
+    let y = assignments_few a n (omega arith) w in
+    let z = one_few (get_or a n 0) (w n) in
+    let q : suc n ≡ n + 1 = omega arith in
+    rw q (omega arith)
+
+pub tallied : (a : List ℕ) (n : ℕ) {r : ℕ} → n ≤ length a → ((i : ℕ) → get_or a i 0 < 65536) → r ≡ sum_by assignment (take n a) → Tallied a n r
+tallied a n h w e = record {
+  is = e ∙ assignments_sum a n h;
+  few = let x = assignments_few a n h w in omega (arith, e);
+}
 
 -- a job in force more than once counts each time but the first
 pub assigned_more : (c : ℕ) → (c ≡ 0 → ⊥) → c - 1 ≡ assignment c

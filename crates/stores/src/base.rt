@@ -2,9 +2,10 @@
 ghost use Rattle.std.specs.Prelude.{◌≡◌, ◌++◌, ◌∷◌, [], ◌+◌, ◌-◌, ◌≤◌, length, take, drop, replicate};
 ghost use Rattle.std.proofs.lemmas.List.Edits.{sets};
 ghost use Rattle.rules.specs.Sizes.{base_length, most_fixed, most_jobs, spans_length};
-ghost use Rattle.stores.specs.Words.{padded, stray_of, strays, base_laid, from_at, to_at, expected_at};
+ghost use Rattle.stores.specs.Words.{padded, strays, base_laid, from_at, to_at, expected_at};
 
 use rules::Plan;
+use words::{copy_to, fill};
 
 // Where the fixed list's two tables and the expected owners begin.
 const FROM: usize = 5;
@@ -37,14 +38,13 @@ pub fn tos(base: &[u32], k: usize) -> &[u32]
     &base[TO..TO + k]
 }
 
-// The numbers of s at `at`, then x up to `to`.
-fn lay(a: &mut [u32], at: usize, s: &[u32], to: usize, x: u32)
+// The words of s at `at`, then x up to `to`.
+fn lay<T: Copy>(a: &mut [T], at: usize, s: &[T], to: usize, x: T)
     requires { (at + length s.now ≤ to) × (to ≤ length a.old) }
     ensures { a.new ≡ sets a.old at (s.now ++ replicate (to - (at + length s.now)) x) }
 {
-    let k = s.len();
-    words::u32s::copy(a, at, s, k);
-    words::u32s::fill(a, at + k, to, x);
+    copy_to(a, at, s);
+    fill(a, at + s.len(), to, x);
 }
 
 // The durations, then zeros.
@@ -52,44 +52,18 @@ pub fn write_spans(a: &mut [u64], s: &[u64])
     requires { (length s.now ≤ spans_length) × (spans_length ≤ length a.old) }
     ensures { a.new ≡ padded spans_length s.now ++ drop spans_length a.old }
 {
-    let k = s.len();
-    words::u64s::copy(a, 0, s, k);
-    words::u64s::fill(a, k, Plan::SPANS, 0);
+    lay(a, 0, s, Plan::SPANS, 0);
 }
 
-// 1 for a `to` that is no job.
-fn stray(to: u32, n: u32) -> u32
-    ensures { (result ≡ stray_of n to) × (result ≤ 1) }
-{
-    if to < n { 0 } else { 1 }
-}
-
-// How many fixed pairs lead nowhere.
+// How many fixed pairs lead to no job.
 fn invalid_fixed(to: &[u32], n: u32) -> u32
     requires { length to.now ≤ most_fixed }
     ensures { result ≡ strays n to.now }
 {
-    let mut sum: u32 = 0;
-    let mut i: usize = 0;
-    while i < to.len() {
-        sum += stray(to[i], n);
-        i += 1;
-    }
-    sum
+    to.iter().filter(|v| n <= **v).count() as u32
 }
 
-// The first five words.
-fn write_head(base: &mut [u32], jobs: u32, owners: u32, fixed: u32, invalid: u32)
-    requires { from_at ≤ length base.old }
-    ensures { base.new ≡ sets base.old 0 (1 ∷ jobs ∷ owners ∷ fixed ∷ invalid ∷ []) }
-{
-    base[0] = 1;
-    base[1] = jobs;
-    base[2] = owners;
-    base[3] = fixed;
-    base[4] = invalid;
-}
-
+// The first five words, then the fixed list's two tables and the expected owners.
 pub fn write_base(
     base: &mut [u32],
     jobs: u32,
@@ -104,7 +78,7 @@ pub fn write_base(
         ≡ base_laid jobs owners expected.now from.now to.now ++ drop base_length base.old }
 {
     let invalid = invalid_fixed(to, jobs);
-    write_head(base, jobs, owners, from.len() as u32, invalid);
+    copy_to(base, 0, &[1, jobs, owners, from.len() as u32, invalid]);
     lay(base, FROM, from, TO, 0);
     lay(base, TO, to, EXPECTED, 0);
     lay(base, EXPECTED, expected, Plan::BASE, Plan::NOBODY);

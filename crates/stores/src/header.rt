@@ -17,22 +17,16 @@ fn told(base: &[u32]) -> Result<Plan, Refusal>
     requires { base_length ≤ length base.now }
     ensures { result ≡ header_of base.now }
 {
-    let mark = base[0];
-    if mark == 0 {
-        return Err(Refusal::NotLoaded);
-    }
-    if mark != 1 {
-        return Err(Refusal::BadStore);
-    }
     let plan = Plan {
         jobs: base[1],
         owners: base[2],
         fixed: base[3],
     };
-    if plan.fits() {
-        return Ok(plan);
+    match base[0] {
+        0 => Err(Refusal::NotLoaded),
+        1 if plan.fits() => Ok(plan),
+        _ => Err(Refusal::BadStore),
     }
-    Err(Refusal::BadStore)
 }
 
 // The header of a store whose slices have these lengths: they have room, then.

@@ -7,7 +7,7 @@ ghost use Rattle.stores.specs.Says.{says_started};
 
 use crate::store::Store;
 use rules::Refusal;
-use words::u64s::copy;
+use words::copy_to;
 
 // How many starts are in front of the answer buffer.
 pub fn starts(store: Store, out: &mut [u64]) -> Result<usize, Refusal>
@@ -20,6 +20,6 @@ pub fn starts(store: Store, out: &mut [u64]) -> Result<usize, Refusal>
     if out.len() < n {
         return Err(Refusal::ShortAnswer);
     }
-    copy(out, 0, times::starts(store.times), n);
+    copy_to(out, 0, &times::starts(store.times)[..n]);
     Ok(n)
 }

@@ -22,23 +22,14 @@ fn sum_of(s: &[u16]) -> u64
     requires { length s.now ≤ routes_length }
     ensures { Summed s.now result }
 {
-    let mut sum: u64 = 0;
-    let mut i: usize = 0;
-    while i < s.len() {
-        sum += s[i] as u64;
-        i += 1;
-    }
-    sum
+    s.iter().map(|x| u64::from(*x)).sum()
 }
 
 // A job in force c times.
 fn assignment(c: u16) -> u64
     ensures { (result ≡ assignment_of c) × (result ≤ 65535) }
 {
-    if c == 0 {
-        return 1;
-    }
-    c as u64 - 1
+    if c == 0 { 1 } else { u64::from(c - 1) }
 }
 
 // What the first n jobs are in force too often, or not at all; a says how often each is.
@@ -46,13 +37,7 @@ fn assignments(a: &[u16], n: usize) -> u64
     requires { (n ≤ length a.now) × (n ≤ most_jobs) }
     ensures { Tallied a.now n result }
 {
-    let mut sum: u64 = 0;
-    let mut i: usize = 0;
-    while i < n {
-        sum += assignment(a[i]);
-        i += 1;
-    }
-    sum
+    a[..n].iter().map(|c| assignment(*c)).sum()
 }
 
 // All but the cycle penalty.
@@ -60,7 +45,7 @@ fn static_penalty(base: &[u32], routes: &[u16], plan: Plan) -> u64
     requires { (from_at ≤ length base.now) × (length routes.now ≡ routes_length) × (plan.jobs ≤ most_jobs) }
     ensures { Penal base.now routes.now plan.jobs result }
 {
-    let fixed = base[4] as u64;
+    let fixed = u64::from(base[4]);
     let owners = sum_of(faults(routes));
     let jobs = assignments(assigned(routes), plan.jobs as usize);
     fixed + owners + jobs
@@ -77,7 +62,7 @@ pub fn score_of(base: &[u32], routes: &[u16], times: &[u64], plan: Plan) -> Resu
         return Err(Refusal::BadStore);
     }
     if is_cyclic(times) {
-        return Ok(Score::of(penalty + plan.jobs as u64, span));
+        return Ok(Score::of(penalty + u64::from(plan.jobs), span));
     }
     Ok(Score::of(penalty, span))
 }

@@ -1,10 +1,7 @@
 use Rattle.stores.proofs.Laying.{spans_laid}
 use Rattle.stores.proofs.base.write_spans.Goals as goal
 
--- `lay_spans`: the durations, and the zeros behind them. Assumes nothing.
+-- `write_spans`: the durations, and the zeros behind them. Assumes nothing.
 
 pub returns : goal.returns
-returns c =
-    let the_copy = c.copy in
-    let the_fill = c.fill in
-    spans_laid _ c.args.s.now the_copy.ensures the_fill.ensures c.requires.0 c.requires.1
+returns c = spans_laid _ c.args.s.now c.lay.ensures c.requires.0 c.requires.1

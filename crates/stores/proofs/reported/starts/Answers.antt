@@ -1,5 +1,6 @@
+use mathlib.Core.Path.{refl, sym, ◌∙◌}
 use native.Mathlib.Omega.{arith}
-use mathlib.Core.Path.{refl, ◌∙◌}
+use lib.Seq.{length-take-le}
 use Rattle.std.proofs.lemmas.Result.{err_from_is_err_and}
 use Rattle.stores.proofs.Readings.{starts_closed, starts_few, starts_all, starts_long}
 use Rattle.stores.proofs.reported.starts.Goals as goal
@@ -14,12 +15,12 @@ returns-in_err-plan c =
 pub returns-then-out-n : goal.returns-then-out-n
 returns-then-out-n c = starts_few _ _ c.in_ok-plan.ensures.says refl c.if-out-n.true
 
-pub copy-requires : goal.copy-requires
-copy-requires c =
+pub slice_bounds-copy_to-end : goal.slice_bounds-copy_to-end
+slice_bounds-copy_to-end c =
     let o = c.in_ok-plan.ensures.opens in
     let l = starts_long c.args.store.times.now c.starts.ensures o.long.times in
-    (omega arith, omega arith)
+    sym (length-take-le c.in_ok-plan.plan.jobs c.starts.result.now (omega arith))
 
 pub returns : goal.returns
 returns c =
-    starts_all _ _ c.in_ok-plan.ensures.says refl refl c.if-out-n.false (c.copy.ensures ∙ rw c.starts.ensures)
+    starts_all _ _ c.in_ok-plan.ensures.says refl refl c.if-out-n.false (c.copy_to.ensures ∙ rw c.starts.ensures)

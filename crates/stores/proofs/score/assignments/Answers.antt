@@ -1,20 +1,22 @@
-use Rattle.stores.proofs.Summing.{count_none, count_turn, count_done}
+use Prim.Native.Nat.{◌<◌, ◌^◌}
+use native.Mathlib.Omega.{arith}
+use mathlib.Core.Path.{◌≡◌}
+use lib.ListN.{take}
+use borrow.Author.Rules.{rules}
+use Rattle.std.specs.List.{sum_by}
+use Rattle.rules.specs.Scores.{assignment}
+use Rattle.stores.proofs.Summing.{assignments_few, tallied}
 use Rattle.stores.proofs.score.assignments.Goals as goal
 
--- `assignments`: so far the sum of the jobs passed. Assumes nothing.
+-- `assignments`: the sum of the first n jobs' penalties, each below 2^16. Assumes nothing.
 
-pub loop-i-init : goal.loop-i-init
-loop-i-init c = count_none _ _
-
-pub loop-i-preserved : goal.loop-i-preserved
-loop-i-preserved c =
-    let the_loop = c.loop-i in
-    let the_loop_test = c.loop-i-test in
-    let the_assignment = c.assignment-sum in
-    count_turn the_loop.invariant the_loop_test.true _ the_assignment.ensures.0 the_assignment.ensures.1
+pub sum-requires-clause-fits : goal.sum-requires-clause-fits
+sum-requires-clause-fits c =
+    let x = assignments_few c.args.a.now c.args.n c.requires.0 (λ i. omega (arith, c.type_inv.a i)) in
+    let few : sum_by assignment (take c.args.n c.args.a.now) < 2 ^ 64 = omega arith in
+    search rules
 
 pub returns : goal.returns
 returns c =
-    let the_loop = c.loop-i in
-    let the_loop_test = c.loop-i-test in
-    count_done the_loop.invariant the_loop_test.false
+    let summing : c.sum.result ≡ sum_by assignment (take c.args.n c.args.a.now) = search rules in
+    tallied c.args.a.now c.args.n c.requires.0 (λ i. omega (arith, c.type_inv.a i)) summing

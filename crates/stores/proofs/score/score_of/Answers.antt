@@ -1,4 +1,5 @@
 use native.Mathlib.Omega.{arith}
+use mathlib.Core.Path.{◌∙◌}
 use lib.ListN.{length-take}
 use Rattle.stores.proofs.Scores.{scored_wide, scored_cyclic, scored_calm}
 use Rattle.stores.proofs.score.score_of.Goals as goal
@@ -29,7 +30,7 @@ returns-then-is_cyclic c =
     let the_is_cyclic = c.is_cyclic in
     let the_if2 = c.if-is_cyclic in
     let the_of = c.of in
-    scored_cyclic the_makespan.ensures the_static_penalty.ensures c.requires.3 the_if1.false the_is_cyclic.ensures the_if2.true the_of.ensures
+    scored_cyclic the_makespan.ensures the_static_penalty.ensures c.requires.3 the_if1.false the_is_cyclic.ensures the_if2.true (the_of.ensures ∙ rw c.from.ensures)
 
 pub returns : goal.returns
 returns c =
