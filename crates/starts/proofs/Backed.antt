@@ -24,9 +24,11 @@ use Rattle.starts.specs.declared.backs.Turned.{Turned}
 use Rattle.starts.specs.declared.backs.Turned.TheVariants.{Free, Back, Tired}
 use Rattle.starts.specs.Backs.{soon, Ended, Closed, Searches, Lates, Spared, Looks, headed, Judges}
 use Rattle.starts.specs.Lines.{LinedUp, Lines, Lows, Verdict}
-use Rattle.starts.specs.Queues.{Joins}
+use Rattle.starts.specs.declared.queues.Queue.{Queue}
+use Rattle.starts.specs.Queues.{Joins, Fresh, Gains}
 use Rattle.words.proofs.Rows.{row_cons, row_none}
-use Rattle.starts.proofs.Queueing.{joins_none, joins_then}
+use Rattle.starts.proofs.Queueing.{gains_none, gains_then}
+use Rattle.starts.proofs.Rows.{Rowed, rowed_none, rowed_next, rowed_done}
 
 -- ── those of a row that start in time ──
 
@@ -56,40 +58,47 @@ module _ (f : ℕ → Bool) where
       go (pass p) = rw p
       go (fail p) = rw p
 
-module _ (v k top n tail : ℕ) (st q mark : List ℕ) (ek : k ≡ v) (ht : tail ≤ most_jobs) where
+module _ (v k top : ℕ) (st : List ℕ) (q : Queue) (ek : k ≡ v) where
   -- a number that is no job
-  pub meet_out : n ≤ k → Joins (keep (soon st top) (v ∷ [])) n 0 tail q mark tail q mark
+  pub meet_out : q.jobs ≤ k → Gains (keep (soon st top) (v ∷ [])) q q
   meet_out h = go (test (soon st top v))
     where
-      go : Test (soon st top v) → Joins (keep (soon st top) (v ∷ [])) n 0 tail q mark tail q mark
-      go (fail p) = rw p (joins_none n 0 tail q mark ht)
-      go (pass p) = rw p (record { short = ht; keeps = λ g Q. let x = g v (kahn.memb_self v []) in absurd (let z : ⊥ = omega arith in z) })
+      go : Test (soon st top v) → Gains (keep (soon st top) (v ∷ [])) q q
+      go (fail p) = rw p (gains_none q)
+      go (pass p) = rw p (record {
+        jobs = refl;
+        head = refl;
+        joins = record {
+          short = (gains_none q).joins.short;
+          keeps = λ g Q. let x = g v (kahn.memb_self v []) in absurd (let z : ⊥ = omega arith in z);
+        };
+      })
 
-  pub meet_late : top < get_or st k 0 → Joins (keep (soon st top) (v ∷ [])) n 0 tail q mark tail q mark
-  meet_late h = let p : soon st top v ≡ false = lt-leb (at st v) top (rw ek at h) in rw p (joins_none n 0 tail q mark ht)
+  pub meet_late : top < get_or st k 0 → Gains (keep (soon st top) (v ∷ [])) q q
+  meet_late h = let p : soon st top v ≡ false = lt-leb (at st v) top (rw ek at h) in rw p (gains_none q)
 
-  pub meet_soon : get_or st k 0 ≤ top → {r : ℕ} {q' mark' : List ℕ} → Joins (v ∷ []) n 0 tail q mark r q' mark'
-      → Joins (keep (soon st top) (v ∷ [])) n 0 tail q mark r q' mark'
+  pub meet_soon : get_or st k 0 ≤ top → {q' : Queue} → Gains (v ∷ []) q q' → Gains (keep (soon st top) (v ∷ [])) q q'
   meet_soon h T = let p : soon st top v ≡ true = le-leb (at st v) top (rw ek at h) in rw p T
 
--- the loop of `meets`: once the rest of the row is met, all of it is
-pub record Meeting (row st : List ℕ) (top n start : ℕ) (q₀ mark₀ : List ℕ) (k tail : ℕ) (q mark : List ℕ) : Type 0 where
-  pub rest : (r : ℕ) (q' mark' : List ℕ) → Joins (keep (soon st top) (drop k row)) n 0 tail q mark r q' mark'
-      → Joins (keep (soon st top) row) n 0 start q₀ mark₀ r q' mark'
+-- those of the jobs vs that start in time are queued
+pub record Soon (st : List ℕ) (top : ℕ) (vs : List ℕ) (q q' : Queue) : Type 0 where
+  pub gains : Gains (keep (soon st top) vs) q q'
 
-pub meeting_none : (row st : List ℕ) (top n start : ℕ) (q mark : List ℕ) → Meeting row st top n start q mark 0 start q mark
-meeting_none row st top n start q mark = record { rest = λ r q' mark' K. K }
+-- the loop of `meets`
+abbrev pub Meeting : List ℕ → ℕ → List ℕ → Queue → ℕ → Queue → Type 0
+Meeting st top = Rowed (Soon st top)
 
-module _ {row st : List ℕ} {top n start : ℕ} {q₀ mark₀ : List ℕ} {k tail : ℕ} {q mark : List ℕ}
-    (L : Meeting row st top n start q₀ mark₀ k tail q mark) where
-  pub meeting_next : k < length row → {r : ℕ} {q' mark' : List ℕ} → Joins (keep (soon st top) (get_or row k 0 ∷ [])) n 0 tail q mark r q' mark'
-      → Meeting row st top n start q₀ mark₀ (k + 1) r q' mark'
-  meeting_next h T = record {
-    rest = λ r q' mark' K. L.rest r q' mark' (rw (row_cons row k h, keep_cons (soon st top) (get_or row k 0) (drop (k + 1) row)) (joins_then K T));
-  }
+pub meeting_none : (st : List ℕ) (top : ℕ) (row : List ℕ) (q : Queue) → Meeting st top row q 0 q
+meeting_none st top = rowed_none (Soon st top)
 
-  pub meeting_done : length row ≤ k → tail ≤ most_jobs → Joins (keep (soon st top) row) n 0 start q₀ mark₀ tail q mark
-  meeting_done h s = L.rest tail q mark (rw (row_none row k h) (joins_none n 0 tail q mark s))
+pub meeting_next : {st : List ℕ} {top : ℕ} {row : List ℕ} {q₀ : Queue} {k : ℕ} {q q' : Queue} → Gains (keep (soon st top) (get_or row k 0 ∷ [])) q q'
+    → Meeting st top row q₀ k q → k < length row → Meeting st top row q₀ (k + 1) q'
+meeting_next {st} {top} T L h =
+    rowed_next (Soon st top) L (λ v vs s t u T U. record { gains = rw (keep_cons (soon st top) v vs) (gains_then U.gains T.gains) }) h (record { gains = T })
+
+pub meeting_done : {st : List ℕ} {top : ℕ} {row : List ℕ} {q₀ : Queue} {k : ℕ} {q : Queue} → Meeting st top row q₀ k q → length row ≤ k
+    → Gains (keep (soon st top) row) q₀ q
+meeting_done {st} {top} {q} L h = (rowed_done (Soon st top) L h (record { gains = gains_none q })).gains
 
 -- ── the search: the jobs l are met, from b on, and those of p are passed ──
 
@@ -131,8 +140,10 @@ take_push : (h : ℕ) (l vs : List ℕ) → h ≤ length l → take h (push l vs
 take_push h l vs k = ap (λ (x : List ℕ). take h (push x vs)) (sym (append-nil l)) ∙ ap (take h) (push_split l [] vs)
     ∙ take-append-le h l (push2 l [] vs) k
 
-pub record Spreading (e st : List ℕ) (b top n head tail : ℕ) (q mark : List ℕ) : Type 0 where
-  pub keeps : (m : Model) → Holds e m → Below n m → Spread n (live m) (at st) b top head (ringed q 0 tail) mark
+pub record Spreading (e st : List ℕ) (b top n head : ℕ) (q : Queue) : Type 0 where
+  pub jobs : q.jobs ≡ n
+  pub first : q.head ≡ 0
+  pub keeps : (m : Model) → Holds e m → Below n m → Spread n (live m) (at st) b top head (ringed q.ring 0 q.len) q.mark
 
 -- the successors of x that start in time, as `meets` queues them
 module _ {e row : List ℕ} (st : List ℕ) (x top : ℕ) {n : ℕ} (S : Successors e x row) (m : Model) (H : Holds e m) (w : Below n m) where
@@ -145,12 +156,14 @@ module _ {e row : List ℕ} (st : List ℕ) (x top : ℕ) {n : ℕ} (S : Success
   lows : Lows n (keep (soon st top) row)
   lows v d = (w x v (only v d)).1
 
-pub spreading_none : {e st row : List ℕ} {b top n tail : ℕ} {q q' mark' : List ℕ}
-    → Joins (keep (soon st top) row) n 0 0 q (replicate most_jobs 0) tail q' mark' → Successors e b row → n ≤ most_jobs → b < n
-    → Spreading e st b top n 0 tail q' mark'
+pub spreading_none : {e st row : List ℕ} {b top n : ℕ} {q q' : Queue} → Gains (keep (soon st top) row) q q' → Fresh n q → Successors e b row
+    → n ≤ most_jobs → b < n → Spreading e st b top n 0 q'
 unfolding ringed
-spreading_none {st} {row} {b} {top} {n} {tail} {q'} T S hn hb = record {
+spreading_none {e} {st} {row} {b} {top} {n} {q} {q'} G F S hn hb = record {
+  jobs = G.jobs ∙ F.jobs;
+  first = G.head ∙ F.head;
   keeps = λ m H w.
+      let T : Joins (keep (soon st top) row) n 0 0 q.ring (replicate most_jobs 0) q'.len q'.ring q'.mark = rw (F.jobs, F.head, F.len, F.mark) at G.joins in
       let (Q, z) = T.keeps (lows st b top S m H w) (ring.queued_none n (replicate most_jobs 0) (λ v h. get_or-replicate most_jobs v 0 0 (omega arith))) in
       record {
         queued = Q;
@@ -160,20 +173,20 @@ spreading_none {st} {row} {b} {top} {n} {tail} {q'} T S hn hb = record {
       };
 }
 
-module _ {e st : List ℕ} {b top n head tail : ℕ} {q mark : List ℕ} (D : Spreading e st b top n head tail q mark) (hn : n ≤ most_jobs) (hb : b < n) where
-  pub spreading_back : length mark ≡ most_jobs → get_or mark b 0 ≡ 1 → Searches e st b top n Back
-  spreading_back lm h = record {
+module _ {e st : List ℕ} {b top n head : ℕ} {q : Queue} (D : Spreading e st b top n head q) (hn : n ≤ most_jobs) (hb : b < n) where
+  pub spreading_back : get_or q.mark b 0 ≡ 1 → Searches e st b top n Back
+  spreading_back h = record {
     is = λ m H w k.
         let X = D.keeps m H w in
-        kahn.circuit_none n (live m) (b, hb, X.met.led b (ring.queued_in n mark (ringed q 0 tail) (omega arith) b X.queued hb h));
+        kahn.circuit_none n (live m) (b, hb, X.met.led b (ring.queued_in n q.mark (ringed q.ring 0 q.len) (let a = q.places in omega arith) b X.queued hb h));
   }
 
-  pub spreading_done : tail ≤ head → (x : ℕ) → Searches e st b top n (Free x)
+  pub spreading_done : q.len ≤ head → (x : ℕ) → Searches e st b top n (Free x)
   spreading_done h x = record {
     is = λ m H w k.
         let X = D.keeps m H w in
-        let l : List ℕ = ringed q 0 tail in
-        let z : take head l ≡ l = take_all head l (omega (arith, ring.ringed_length q 0 tail)) in
+        let l : List ℕ = ringed q.ring 0 q.len in
+        let z : take head l ≡ l = take_all head l (omega (arith, ring.ringed_length q.ring 0 q.len)) in
         let M : Met n (live m) (at st) b top (b ∷ l) l = rw z at X.met in
         let out : memb b l ≡ false = rw z at X.ahead in (
           λ v. memb v (b ∷ l),
@@ -185,24 +198,28 @@ module _ {e st : List ℕ} {b top n head tail : ℕ} {q mark : List ℕ} (D : Sp
         );
   }
 
-module _ {e st row : List ℕ} {b top n head tail u r : ℕ} {q mark q' mark' : List ℕ} (T : Joins (keep (soon st top) row) n 0 tail q mark r q' mark')
-    (D : Spreading e st b top n head tail q mark) (S : Successors e u row) (eu : u ≡ get_or q head 0) (fresh : get_or mark b 0 ≡ 1 → ⊥)
-    (hh : head < tail) (ht : tail ≤ most_jobs) (hn : n ≤ most_jobs) (hb : b < n) (lq : length q ≡ most_jobs) (lm : length mark ≡ most_jobs) where
+module _ {e st row : List ℕ} {b top n head u : ℕ} {q q' : Queue} (G : Gains (keep (soon st top) row) q q')
+    (D : Spreading e st b top n head q) (S : Successors e u row) (eu : u ≡ get_or q.ring head 0) (fresh : get_or q.mark b 0 ≡ 1 → ⊥)
+    (hh : head < q.len) (hn : n ≤ most_jobs) (hb : b < n) where
   abbrev l : List ℕ
-  l = ringed q 0 tail
+  l = ringed q.ring 0 q.len
 
   long : head < length l
-  long = omega (arith, ring.ringed_length q 0 tail)
+  long = omega (arith, ring.ringed_length q.ring 0 q.len)
 
   placed : u ≡ get_or l head 0
-  placed = eu ∙ sym (get_or-take tail q head 0 hh) ∙ sym (ap (λ (x : List ℕ). get_or x head 0) (ring.ringed_take q 0 tail lq (omega arith)))
+  placed = eu ∙ sym (get_or-take q.len q.ring head 0 hh)
+      ∙ sym (ap (λ (x : List ℕ). get_or x head 0) (ring.ringed_take q.ring 0 q.len q.places.0 (let a = q.places in omega arith)))
 
   here : memb u l ≡ true
   here = rw placed (kahn.memb_get_or l head long)
 
-  pub spreading_next : Spreading e st b top n (head + 1) r q' mark'
+  pub spreading_next : Spreading e st b top n (head + 1) q'
   spreading_next = record {
+    jobs = G.jobs ∙ D.jobs;
+    first = G.head ∙ D.first;
     keeps = λ m H w.
+        let T : Joins (keep (soon st top) row) n 0 q.len q.ring q.mark q'.len q'.ring q'.mark = rw (D.jobs, D.first) at G.joins in
         let X = D.keeps m H w in
         let (Q, z) = T.keeps (lows st u top S m H w) X.queued in
         let g : take (suc head) (push l (keep (soon st top) row)) ≡ take (suc head) l = take_push (suc head) l (keep (soon st top) row) long in
@@ -211,7 +228,7 @@ module _ {e st row : List ℕ} {b top n head tail u r : ℕ} {q mark q' mark' : 
           queued = Q;
           met = rw (z, add-one, g, t) (met_more n (live m) (at st) b top u (keep (soon st top) row) X.met (X.queued.low u here)
               (kahn.memb_later u b l here) (only st u top S m H w) (all st u top S m H w));
-          ahead = rw (z, add-one, g) (out (ring.queued_out n mark l (omega arith) b X.queued hb fresh) (test (memb b (take (suc head) l))));
+          ahead = rw (z, add-one, g) (out (ring.queued_out n q.mark l (let a = q.places in omega arith) b X.queued hb fresh) (test (memb b (take (suc head) l))));
         };
   }
     where

@@ -1,4 +1,5 @@
 -- Laws. Assumes nothing.
+pub mod Rows
 pub mod Lining
 pub mod Pulled
 pub mod Queueing

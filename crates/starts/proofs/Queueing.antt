@@ -7,8 +7,9 @@ use Rattle.graphs.specs.Queue.{ringed, Queued}
 use Rattle.graphs.proofs.Kahn as kahn
 use Rattle.graphs.proofs.Ring as ring
 use Rattle.starts.specs.Lines.{Lows}
-use Rattle.starts.specs.Queues.{Joins}
-use Rattle.words.proofs.Rows.{row_cons, row_none}
+use Rattle.starts.specs.declared.queues.Queue.{Queue}
+use Rattle.starts.specs.Queues.{Joins, Gains}
+use Rattle.starts.proofs.Rows.{Rowed, rowed_none, rowed_next, rowed_done}
 
 -- ── join ──
 
@@ -64,21 +65,31 @@ joins_then {vs} {ws} {n} {head} {len} {a} K T = record {
       rw (push_append (ringed a head len) vs ws) (rw y at (K.keeps (λ w e. g w (kahn.memb_back w vs ws e)) x));
 }
 
--- the loop of `joins`: once the rest of the row is queued, all of it is
-pub record Joining (row : List ℕ) (n head start : ℕ) (a₀ mark₀ : List ℕ) (k len : ℕ) (a mark : List ℕ) : Type 0 where
-  pub rest : (r : ℕ) (a' mark' : List ℕ) → Joins (drop k row) n head len a mark r a' mark' → Joins row n head start a₀ mark₀ r a' mark'
+-- ── a queue ──
 
-pub joining_none : (row : List ℕ) (n head start : ℕ) (a mark : List ℕ) → Joining row n head start a mark 0 start a mark
-joining_none row n head start a mark = record { rest = λ r a' mark' K. K }
+pub gains_none : (q : Queue) → Gains [] q q
+gains_none q = record { jobs = refl; head = refl; joins = joins_none q.jobs q.head q.len q.ring q.mark (let a = q.places in omega arith) }
 
-module _ {row : List ℕ} {n head start : ℕ} {a₀ mark₀ : List ℕ} {k len : ℕ} {a mark : List ℕ}
-    (L : Joining row n head start a₀ mark₀ k len a mark) where
-  pub joining_next : k < length row → {r : ℕ} {a' mark' : List ℕ} → Joins (get_or row k 0 ∷ []) n head len a mark r a' mark'
-      → Joining row n head start a₀ mark₀ (k + 1) r a' mark'
-  joining_next h T = record { rest = λ r a' mark' K. L.rest r a' mark' (rw (row_cons row k h) (joins_then K T)) }
+pub gains_then : {vs ws : List ℕ} {q q' q'' : Queue} → Gains ws q' q'' → Gains vs q q' → Gains (vs ++ ws) q q''
+gains_then {vs} {ws} {q} {q'} {q''} U T = record {
+  jobs = U.jobs ∙ T.jobs;
+  head = U.head ∙ T.head;
+  joins = joins_then (rw (T.jobs, T.head) at U.joins) T.joins;
+}
 
-  pub joining_done : length row ≤ k → len ≤ most_jobs → Joins row n head start a₀ mark₀ len a mark
-  joining_done h s = L.rest len a mark (rw (row_none row k h) (joins_none n head len a mark s))
+-- the loop of `joins`
+abbrev pub Joining : List ℕ → Queue → ℕ → Queue → Type 0
+Joining = Rowed Gains
+
+pub joining_none : (row : List ℕ) (q : Queue) → Joining row q 0 q
+joining_none = rowed_none Gains
+
+pub joining_next : {row : List ℕ} {q₀ : Queue} {k : ℕ} {q q' : Queue} → Gains (get_or row k 0 ∷ []) q q' → Joining row q₀ k q → k < length row
+    → Joining row q₀ (k + 1) q'
+joining_next T L h = rowed_next Gains L (λ v vs s t u T U. gains_then U T) h T
+
+pub joining_done : {row : List ℕ} {q₀ : Queue} {k : ℕ} {q : Queue} → Joining row q₀ k q → length row ≤ k → Gains row q₀ q
+joining_done {q} L h = rowed_done Gains L h (gains_none q)
 
 -- what the queue's functions are proved by
 pub ruleset queueing = (rules, join_out, join_there, join_full, join_joins, joining_none, joining_next, joining_done)

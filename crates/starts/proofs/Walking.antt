@@ -1,5 +1,5 @@
 -- Laws of the walk's functions; f is each job's floor. Assumes nothing.
-use Rattle.std.proofs.Common.{◌≡◌, ℕ, ◌+◌, ◌-◌, ◌*◌, ◌/◌, ◌%◌, ◌<◌, ◌≤◌, List, [], ◌∷◌, length, get_or, drop, set, replicate, sym, refl, ◌∙◌, subst, mul-le-mul_right, arith, drop-set-lt, w64, Fits, rules, eq-eqb, ne_eqb}
+use Rattle.std.proofs.Common.{◌≡◌, ℕ, zero, suc, ◌+◌, ◌-◌, ◌*◌, ◌/◌, ◌%◌, ◌<◌, ◌≤◌, ◌⊎◌, inl, inr, List, [], ◌∷◌, length, get_or, drop, set, replicate, sym, refl, ◌∙◌, subst, mul-le-mul_right, arith, drop-set-lt, w64, Fits, rules, eq-eqb, ne_eqb}
 use lib.ListN.{get_or-replicate}
 use lib.Seq.{set-get_or}
 use Rattle.rules.specs.Reports.{push, tri}
@@ -17,9 +17,10 @@ use Rattle.graphs.proofs.Bridge.{linked}
 use Rattle.graphs.proofs.Ring as ring
 use Rattle.graphs.proofs.Midway as mid
 use Rattle.starts.specs.Pulls.{Pulls, Low}
-use Rattle.starts.specs.Queues.{Joins}
+use Rattle.starts.specs.declared.queues.Queue.{Queue}
+use Rattle.starts.specs.Queues.{Joins, Fresh, Gains, Stuck, Pops}
 use Rattle.starts.specs.Walks.{Visit, Walks, most_visits}
-use Rattle.starts.proofs.Queueing.{joins_then}
+use Rattle.starts.proofs.Queueing.{gains_then}
 
 -- ── a visit ──
 
@@ -72,69 +73,63 @@ fuel_is n h = let a = tri_is n in let b = product_few n h in (omega arith, omega
 
 -- ── the walk ──
 
-pub record Running (e sp : List ℕ) (f : ℕ → ℕ) (st₀ vs : List ℕ) (n head len fuel visits : ℕ) (st a mark : List ℕ) : Type 0 where
+pub record Running (e sp : List ℕ) (f : ℕ → ℕ) (st₀ vs : List ℕ) (n fuel visits : ℕ) (st : List ℕ) (q : Queue) : Type 0 where
+  pub jobs : q.jobs ≡ n
   pub beyond : drop n st ≡ drop n st₀
   pub is : (m : Model) (rank : ℕ → ℕ) → Sound e sp f n m rank → Seeded n m f sp st₀ (push [] vs)
-      → mid.Midway n m f sp rank (mid.whole n m f sp st₀ (push [] vs)) (ringed a head len) fuel visits st mark
+      → mid.Midway n m f sp rank (mid.whole n m f sp st₀ (push [] vs)) (ringed q.ring q.head q.len) fuel visits st q.mark
 
-pub running_none : (e sp : List ℕ) (f : ℕ → ℕ) (st : List ℕ) {vs a : List ℕ} {n len fuel : ℕ} {a' mark : List ℕ} → n ≤ most_jobs
-    → Joins vs n 0 0 a (replicate most_jobs 0) len a' mark → fuel ≡ tri n → Running e sp f st vs n 0 len fuel 0 st a' mark
+pub running_none : (e sp : List ℕ) (f : ℕ → ℕ) (st : List ℕ) {vs : List ℕ} {n fuel : ℕ} {q q' : Queue} → Gains vs q q' → Fresh n q
+    → n ≤ most_jobs → fuel ≡ tri n → Running e sp f st vs n fuel 0 st q'
 unfolding ringed
-running_none e sp f st {vs} {n = n} hn J ef = record {
+running_none e sp f st {vs} {n} {fuel} {q} {q'} G F hn ef = record {
+  jobs = G.jobs ∙ F.jobs;
   beyond = refl;
   is = λ m rank S D.
-      let (Q, q) = J.keeps (λ v e. D.low v (push_new v [] vs e))
+      let J : Joins vs n 0 0 q.ring (replicate most_jobs 0) q'.len q'.ring q'.mark = rw (F.jobs, F.head, F.len, F.mark) at G.joins in
+      let (Q, z) = J.keeps (λ v e. D.low v (push_new v [] vs e))
       (ring.queued_none n (replicate most_jobs 0) (λ v h. get_or-replicate most_jobs v 0 0 (omega arith))) in
-      rw (q, ef) (mid.midway_start S hn D (rw q at Q));
+      rw (G.head ∙ F.head, z, ef) (mid.midway_start S hn D (rw z at Q));
 }
 
-module _ {e sp : List ℕ} {f : ℕ → ℕ} {st₀ vs : List ℕ} {n head len fuel visits : ℕ} {st a mark : List ℕ}
-    (R : Running e sp f st₀ vs n head len fuel visits st a mark) (hn : n ≤ most_jobs) where
-  module _ (hl : 0 < len) where
-    opened : (m : Model) (rank : ℕ → ℕ) → Sound e sp f n m rank → Seeded n m f sp st₀ (push [] vs)
-        → mid.Midway n m f sp rank (mid.whole n m f sp st₀ (push [] vs))
-        (get_or a head 0 ∷ ringed a ((head + 1) % most_jobs) (len - 1)) fuel visits st mark
-    opened m rank S D = rw (ring.ringed_pop a head len hl) at (R.is m rank S D)
+module _ {e sp : List ℕ} {f : ℕ → ℕ} {st₀ vs : List ℕ} {n fuel visits : ℕ} {st : List ℕ} {q : Queue}
+    (R : Running e sp f st₀ vs n fuel visits st q) (hn : n ≤ most_jobs) where
+  opened : 0 < q.len → (m : Model) (rank : ℕ → ℕ) → Sound e sp f n m rank → Seeded n m f sp st₀ (push [] vs)
+      → mid.Midway n m f sp rank (mid.whole n m f sp st₀ (push [] vs))
+      (get_or q.ring q.head 0 ∷ ringed q.ring ((q.head + 1) % most_jobs) (q.len - 1)) fuel visits st q.mark
+  opened hl m rank S D = rw (ring.ringed_pop q.ring q.head q.len hl) at (R.is m rank S D)
 
+  module _ {v : ℕ} {q' : Queue} (P : Pops q v q') where
     -- what no calls could have left
     pub running_spent : visits + fuel ≤ tri n → fuel ≡ 0 → Walks e sp f st₀ vs n visits st
     running_spent few z = record {
       beyond = R.beyond;
       few = omega arith;
-      is = λ m rank S D. absurd (mid.midway_fuel S hn (opened m rank S D) z);
+      is = λ m rank S D. absurd (mid.midway_fuel S hn (opened P.waits m rank S D) z);
     }
 
-    module _ (v : ℕ) (ev : v ≡ get_or a head 0) where
-      pub running_out : visits + fuel ≤ tri n → n ≤ v → Walks e sp f st₀ vs n visits st
-      running_out few z = record {
-        beyond = R.beyond;
-        few = omega arith;
-        is = λ m rank S D. let x = mid.midway_in S hn (opened m rank S D) in absurd (let y : ⊥ = omega arith in y);
-      }
+    pub running_next : {q'' : Queue} {st' : List ℕ} → Visit e sp f st v q'.jobs q'.head q'.len q'.ring q'.mark q''.len st' q''.ring q''.mark
+        → q''.jobs ≡ q'.jobs → q''.head ≡ q'.head → length st ≡ length st₀ → n ≤ length st₀ → Running e sp f st₀ vs n (fuel - 1) (visits + 1) st' q''
+    running_next {q''} {st'} T ej eh ls l₀ = record { jobs = ej ∙ P.jobs ∙ R.jobs; beyond = U.beyond ∙ R.beyond; is = turn }
+      where
+        U : Visit e sp f st v n ((q.head + 1) % most_jobs) (q.len - 1) q.ring q.mark q''.len st' q''.ring q''.mark
+        U = rw (P.jobs ∙ R.jobs, P.head, P.len, P.ring, P.mark) at T
 
-      pub running_next : length st ≡ length st₀ → n ≤ length st₀ → v < n → (head' : ℕ) → head' ≡ (head + 1) % most_jobs → {r : ℕ} {st' a' mark' : List ℕ}
-          → Visit e sp f st v n head' (len - 1) a mark r st' a' mark'
-          → Running e sp f st₀ vs n head' r (fuel - 1) (visits + 1) st' a' mark'
-      running_next ls l₀ hv head' eh {r} {st'} {a'} {mark'} T = record {
-        beyond = T.beyond ∙ R.beyond;
-        is = turn;
-      }
-        where
-          turn : (m : Model) (rank : ℕ → ℕ) → Sound e sp f n m rank → Seeded n m f sp st₀ (push [] vs)
-              → mid.Midway n m f sp rank (mid.whole n m f sp st₀ (push [] vs)) (ringed a' head' r) (fuel - 1) (visits + 1) st' mark'
-          turn m rank S D =
-              let M : mid.Midway n m f sp rank (mid.whole n m f sp st₀ (push [] vs)) (v ∷ ringed a head' (len - 1)) fuel visits st mark =
-              rw (ev, eh) (opened m rank S D) in
-              let W = T.keeps m S.holds S.below (mid.midway_low S hn M) M.queued in
-              rw W.start (mid.midway_turn S hn M _ refl (omega arith) (ringed a' head' r) mark' W.queue.1 W.queue.0)
+        turn : (m : Model) (rank : ℕ → ℕ) → Sound e sp f n m rank → Seeded n m f sp st₀ (push [] vs)
+            → mid.Midway n m f sp rank (mid.whole n m f sp st₀ (push [] vs)) (ringed q''.ring q''.head q''.len) (fuel - 1) (visits + 1) st' q''.mark
+        turn m rank S D =
+            let M : mid.Midway n m f sp rank (mid.whole n m f sp st₀ (push [] vs)) (v ∷ ringed q.ring ((q.head + 1) % most_jobs) (q.len - 1)) fuel visits st q.mark =
+            rw P.first (opened P.waits m rank S D) in
+            let W = U.keeps m S.holds S.below (mid.midway_low S hn M) M.queued in
+            rw (eh ∙ P.head, W.start) (mid.midway_turn S hn M _ refl (let a = P.low in let b = R.jobs in omega arith) (ringed q''.ring ((q.head + 1) % most_jobs) q''.len) q''.mark W.queue.1 W.queue.0)
 
-  pub running_done : visits + fuel ≤ tri n → len ≤ 0 → Walks e sp f st₀ vs n visits st
+  pub running_done : visits + fuel ≤ tri n → Stuck q → Walks e sp f st₀ vs n visits st
   unfolding ringed
   running_done few z = record {
     beyond = R.beyond;
     few = omega arith;
     is = λ m rank S D.
-        let M = closed m rank S D in
+        let M = closed m rank S D q.len refl z in
         record {
           visits = mid.midway_visits M;
           starts = mid.midway_starts M;
@@ -143,9 +138,12 @@ module _ {e sp : List ℕ} {f : ℕ → ℕ} {st₀ vs : List ℕ} {n head len f
         };
   }
     where
-      closed : (m : Model) (rank : ℕ → ℕ) → Sound e sp f n m rank → Seeded n m f sp st₀ (push [] vs)
-          → mid.Midway n m f sp rank (mid.whole n m f sp st₀ (push [] vs)) [] fuel visits st mark
-      closed m rank S D = let q : len ≡ 0 = omega arith in rw q at (R.is m rank S D)
+      closed : (m : Model) (rank : ℕ → ℕ) → Sound e sp f n m rank → Seeded n m f sp st₀ (push [] vs) → (k : ℕ) → q.len ≡ k → Stuck q
+          → mid.Midway n m f sp rank (mid.whole n m f sp st₀ (push [] vs)) [] fuel visits st q.mark
+      closed m rank S D zero i z = rw i at (R.is m rank S D)
+      closed m rank S D (suc k) i (inl j) = absurd (omega arith)
+      -- a number that is no job waits first
+      closed m rank S D (suc k) i (inr h) = absurd (let x = mid.midway_in S hn (opened (omega arith) m rank S D) in let b = R.jobs in omega arith)
 
 -- what the walk's functions are proved by
-pub ruleset walking = (rules, fuel_fits, fuel_is, joins_then, visit_same, visit_new, running_none, running_spent, running_out, running_next, running_done)
+pub ruleset walking = (rules, fuel_fits, fuel_is, gains_then, visit_same, visit_new, running_none, running_spent, running_next, running_done)

@@ -5,11 +5,11 @@
 ghost use Rattle.std.specs.Prelude.{◌≡◌, ◌<◌, ◌≤◌, [], ◌∷◌, length};
 ghost use Rattle.rules.specs.Lists.{keep};
 ghost use Rattle.rules.specs.Sizes.{edges_length, most_jobs};
-ghost use Rattle.starts.specs.Queues.{Joins};
+ghost use Rattle.starts.specs.Queues.{Gains};
 ghost use Rattle.starts.specs.Backs.{soon, Searches, Lates, Looks, Judges};
 
 use crate::lineup::line_up;
-use crate::queues::join;
+use crate::queues::Queue;
 use edges::lists::{predecessors, successors};
 use rules::Plan;
 
@@ -26,79 +26,49 @@ enum Turned {
     Tired,
 }
 
-// Job v joins the queue, unless it starts later than `top` or is queued.
-fn meet(
-    queue: &mut [u16],
-    mark: &mut [u8],
-    starts: &[u64],
-    v: u16,
-    top: u64,
-    n: usize,
-    tail: usize,
-) -> usize
-    requires { (length queue.old ≡ most_jobs) × (length mark.old ≡ most_jobs) × (n ≤ length starts.now) × (n ≤ most_jobs)
-        × (tail ≤ most_jobs) }
-    ensures { Joins (keep (soon starts.now top) (v ∷ [])) n 0 tail queue.old mark.old result
-        queue.new mark.new }
+// Job v joins the queue, unless it starts later than `top` or waits already.
+fn meet(queue: &mut Queue, starts: &[u64], v: u16, top: u64)
+    requires { queue.old.jobs ≤ length starts.now }
+    ensures { Gains (keep (soon starts.now top) (v ∷ [])) queue.old queue.new }
 {
     let k = usize::from(v);
-    if n <= k {
-        return tail;
+    if queue.jobs <= k {
+        return;
     }
     if top < starts[k] {
-        return tail;
+        return;
     }
-    join(queue, mark, 0, tail, v, n)
+    queue.join(v);
 }
 
 // The same for each job of a row.
-fn meets(
-    row: &[u16],
-    queue: &mut [u16],
-    mark: &mut [u8],
-    starts: &[u64],
-    top: u64,
-    n: usize,
-    start: usize,
-) -> usize
-    requires { (length queue.old ≡ most_jobs) × (length mark.old ≡ most_jobs) × (n ≤ length starts.now) × (n ≤ most_jobs)
-        × (start ≤ most_jobs) }
-    ensures { Joins (keep (soon starts.now top) row.now) n 0 start queue.old mark.old result
-        queue.new mark.new }
+fn meets(row: &[u16], queue: &mut Queue, starts: &[u64], top: u64)
+    requires { queue.old.jobs ≤ length starts.now }
+    ensures { Gains (keep (soon starts.now top) row.now) queue.old queue.new }
 {
-    let mut tail = start;
     for &v in row {
-        tail = meet(queue, mark, starts, v, top, n, tail);
+        meet(queue, starts, v, top);
     }
-    tail
 }
 
 // From b on, over jobs that start no later than `top`; at most `left` of them are passed.
-fn search(
-    e: &[u16],
-    queue: &mut [u16],
-    starts: &[u64],
-    b: usize,
-    top: u64,
-    n: usize,
-    left: usize,
-) -> Turned
-    requires { (length e.now ≡ edges_length) × (length queue.old ≡ most_jobs) × (n ≤ length starts.now) × (n ≤ most_jobs) × (b < n) }
+fn search(e: &[u16], starts: &[u64], b: usize, top: u64, n: usize, left: usize) -> Turned
+    requires { (length e.now ≡ edges_length) × (n ≤ length starts.now) × (n ≤ most_jobs) × (b < n) }
     ensures { Searches e.now starts.now b top n result }
 {
-    let mut mark = [0u8; Plan::JOBS];
-    let mut tail = meets(successors(e, b), queue, &mut mark, starts, top, n, 0);
+    let mut queue = Queue::new(n);
+    meets(successors(e, b), &mut queue, starts, top);
     let mut head = 0;
     // A `while`: the queue grows while it is passed, so no range or row stands still to go over.
-    while head < tail {
-        if mark[b] == 1 {
+    while head < queue.len {
+        if queue.mark[b] == 1 {
             return Turned::Back;
         }
         if left <= head {
             return Turned::Tired;
         }
-        let u = usize::from(queue[head]);
-        tail = meets(successors(e, u), queue, &mut mark, starts, top, n, tail);
+        let u = usize::from(queue.ring[head]);
+        meets(successors(e, u), &mut queue, starts, top);
         head += 1;
     }
     Turned::Free(left - head)
@@ -129,8 +99,8 @@ fn latest(row: &[u16], starts: &[u64], n: usize) -> u64
 }
 
 // A way from b back to b, where one of its predecessors starts no sooner than it.
-fn look(e: &[u16], queue: &mut [u16], starts: &[u64], b: u16, n: usize, left: usize) -> Turned
-    requires { (length e.now ≡ edges_length) × (length queue.old ≡ most_jobs) × (n ≤ length starts.now) × (n ≤ most_jobs) }
+fn look(e: &[u16], starts: &[u64], b: u16, n: usize, left: usize) -> Turned
+    requires { (length e.now ≡ edges_length) × (n ≤ length starts.now) × (n ≤ most_jobs) }
     ensures { Looks e.now starts.now b n result }
 {
     let k = usize::from(b);
@@ -141,7 +111,7 @@ fn look(e: &[u16], queue: &mut [u16], starts: &[u64], b: u16, n: usize, left: us
     if top < starts[k] {
         return Turned::Free(left);
     }
-    search(e, queue, starts, k, top, n, left)
+    search(e, starts, k, top, n, left)
 }
 
 // The verdict after edges with these heads appeared in a graph that had a line-up and these starts: is there a line-up?
@@ -149,15 +119,15 @@ pub fn judge(e: &[u16], starts: &[u64], heads: &[u16], n: usize) -> bool
     requires { (length e.now ≡ edges_length) × (n ≤ length starts.now) × (n ≤ most_jobs) }
     ensures { Judges e.now starts.now heads.now n result }
 {
-    let mut queue = [0u16; Plan::JOBS];
+    let mut order = [0u16; Plan::JOBS];
     if HEADS < heads.len() {
-        return line_up(e, n, &mut queue);
+        return line_up(e, n, &mut order);
     }
     let mut left = STEPS;
     for &b in heads {
-        match look(e, &mut queue, starts, b, n, left) {
+        match look(e, starts, b, n, left) {
             Turned::Back => return false,
-            Turned::Tired => return line_up(e, n, &mut queue),
+            Turned::Tired => return line_up(e, n, &mut order),
             Turned::Free(x) => left = x,
         }
     }

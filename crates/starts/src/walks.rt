@@ -5,38 +5,29 @@ ghost use Rattle.std.specs.Prelude.{◌≡◌, ◌<◌, ◌≤◌, ◌++◌, len
 ghost use Rattle.rules.specs.Reports.{tri};
 ghost use Rattle.rules.specs.Sizes.{edges_length, most_jobs};
 ghost use Rattle.graphs.specs.Graph.{zeros};
-ghost use Rattle.starts.specs.Queues.{Joins};
+ghost use Rattle.starts.specs.Queues.{Gains};
 ghost use Rattle.starts.specs.Walks.{Visit, Walks, most_visits};
 
 use crate::earliest;
-use crate::queues::{joins, slot};
+use crate::queues::Queue;
 use edges::lists::successors;
 use rules::Plan;
 
 // Job v, taken from the queue, gets its start anew; if that changed, its successors are queued.
-fn visit(
-    e: &[u16],
-    spans: &[u64],
-    starts: &mut [u64],
-    ring: &mut [u16],
-    mark: &mut [u8],
-    head: usize,
-    len: usize,
-    v: usize,
-    n: usize,
-) -> usize
-    requires { (length e.now ≡ edges_length) × (n ≤ length spans.now) × (n ≤ length starts.old) × (length ring.old ≡ most_jobs)
-        × (length mark.old ≡ most_jobs) × (n ≤ most_jobs) × (head < most_jobs) × (len ≤ most_jobs) × (v < n) }
-    ensures { Visit e.now spans.now zeros starts.old v n head len ring.old
-        mark.old result starts.new ring.new mark.new }
+fn visit(e: &[u16], spans: &[u64], starts: &mut [u64], queue: &mut Queue, v: usize)
+    requires { (length e.now ≡ edges_length) × (queue.old.jobs ≤ length spans.now) × (queue.old.jobs ≤ length starts.old) × (v < queue.old.jobs) }
+    ensures jobs { queue.new.jobs ≡ queue.old.jobs }
+    ensures head { queue.new.head ≡ queue.old.head }
+    ensures visit { Visit e.now spans.now zeros starts.old v queue.old.jobs queue.old.head queue.old.len queue.old.ring
+        queue.old.mark queue.new.len starts.new queue.new.ring queue.new.mark }
 {
-    mark[v] = 0;
-    let x = earliest(e, spans, starts, v, n);
+    queue.mark[v] = 0;
+    let x = earliest(e, spans, starts, v, queue.jobs);
     if x == starts[v] {
-        return len;
+        return;
     }
     starts[v] = x;
-    joins(successors(e, v), ring, mark, head, len, n)
+    queue.joins(successors(e, v));
 }
 
 // n(n+1)/2
@@ -48,21 +39,12 @@ fn fuel_of(n: usize) -> usize
 }
 
 // The seeds in order: heads of edges that appeared, vanished through the owner, vanished through waiting owners.
-fn seeds(
-    ring: &mut [u16],
-    mark: &mut [u8],
-    came: &[u16],
-    went: &[u16],
-    gone: &[u16],
-    n: usize,
-) -> usize
-    requires { (length ring.old ≡ most_jobs) × (length mark.old ≡ most_jobs) × (n ≤ most_jobs) }
-    ensures { Joins (came.now ++ (went.now ++ gone.now)) n 0 0 ring.old mark.old result
-        ring.new mark.new }
+fn seeds(queue: &mut Queue, came: &[u16], went: &[u16], gone: &[u16])
+    ensures { Gains (came.now ++ (went.now ++ gone.now)) queue.old queue.new }
 {
-    let a = joins(came, ring, mark, 0, 0, n);
-    let b = joins(went, ring, mark, 0, a, n);
-    joins(gone, ring, mark, 0, b, n)
+    queue.joins(came);
+    queue.joins(went);
+    queue.joins(gone);
 }
 
 // Mends the starts from the seeds. Answers how many jobs it visited.
@@ -79,24 +61,16 @@ pub fn walk(
     ensures { Walks e.now spans.now zeros starts.old
         (came.now ++ (went.now ++ gone.now)) n result starts.new }
 {
-    let mut ring = [0u16; Plan::JOBS];
-    let mut mark = [0u8; Plan::JOBS];
-    let mut len = seeds(&mut ring, &mut mark, came, went, gone, n);
+    let mut queue = Queue::new(n);
+    seeds(&mut queue, came, went, gone);
     let mut fuel = fuel_of(n);
-    let mut head: usize = 0;
     let mut visits: u64 = 0;
-    // A `while`: the queue grows while it is emptied, so nothing stands still to go over.
-    while 0 < len {
+    while let Some(v) = queue.pop() {
         if fuel == 0 {
             return visits;
         }
-        let v = usize::from(ring[head]);
-        if n <= v {
-            return visits;
-        }
         fuel -= 1;
-        head = slot(head, 1);
-        len = visit(e, spans, starts, &mut ring, &mut mark, head, len - 1, v, n);
+        visit(e, spans, starts, &mut queue, v);
         visits += 1;
     }
     visits

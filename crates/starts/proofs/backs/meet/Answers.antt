@@ -3,5 +3,5 @@ use Rattle.starts.proofs.backs.meet.Goals as goal
 
 -- `meet`: a number that is no job. Assumes nothing.
 
-pub returns-then-n-k : goal.returns-then-n-k
-returns-then-n-k c = search backing
+pub returns-then-queue-k : goal.returns-then-queue-k
+returns-then-queue-k c = search backing

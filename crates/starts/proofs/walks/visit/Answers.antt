@@ -3,5 +3,5 @@ use Rattle.starts.proofs.walks.visit.Goals as goal
 
 -- `visit`. Assumes nothing.
 
-pub returns : goal.returns
-returns c = search walking
+pub returns-clause-visit : goal.returns-clause-visit
+returns-clause-visit c = search walking

@@ -3,17 +3,14 @@ use Rattle.starts.proofs.walks.walk.Goals as goal
 
 -- `walk`. Assumes nothing.
 
-pub loop-len-init : goal.loop-len-init
-loop-len-init c = search walking
+pub loop-v-init : goal.loop-v-init
+loop-v-init c = search walking
 
 pub returns-then-fuel-eq0 : goal.returns-then-fuel-eq0
-returns-then-fuel-eq0 c = search walking
+returns-then-fuel-eq0 c = search (walking, c.in-Some.ensures)
 
-pub returns-then-n-v : goal.returns-then-n-v
-returns-then-n-v c = search walking
-
-pub loop-len-preserved : goal.loop-len-preserved
-loop-len-preserved c = search walking
+pub loop-v-preserved : goal.loop-v-preserved
+loop-v-preserved c = search (walking, c.in-Some.ensures)
 
 pub returns : goal.returns
-returns c = search walking
+returns c = search (walking, c.in_default.ensures)
