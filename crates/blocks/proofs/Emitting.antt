@@ -1,14 +1,13 @@
 -- The records are written one after the other, and the public call's promise is kept. Assumes nothing.
-use Rattle.std.proofs.Common.{◌≡◌, Ok, Err, ℕ, zero, suc, ◌+◌, ◌<◌, ◌≤◌, List, [], ◌∷◌, ◌++◌, length, get_or, take, drop, set, sym, refl, ap, ◌∙◌, not-suc-le-zero, add-one, arith, length-set, length-take-le, take-suc, take_at}
+use Rattle.std.proofs.Common.{◌≡◌, Result, Ok, Err, ℕ, zero, suc, ◌+◌, ◌<◌, ◌≤◌, List, [], ◌∷◌, ◌++◌, length, get_or, take, drop, set, sym, refl, ap, ◌∙◌, not-suc-le-zero, add-one, arith, length-set, length-take-le, take-suc, take_at}
 use mathlib.Core.Option.{Option, none, some}
 use lib.Seq.{length-sets, sets, sets-eq, take-length}
 use Rattle.rules.specs.declared.Block.{Block}
+use Rattle.rules.specs.declared.Plan.{Plan as Header}
 use Rattle.rules.specs.declared.Refusal.{Refusal}
 use Rattle.rules.specs.Routes.{State}
 use Rattle.rules.specs.Blocks.{no_block}
 use Rattle.rules.specs.Calls.{Reply, accepted, blocked, decide, refusal, refused, reply, step, to_blocks}
-use Rattle.stores.specs.declared.header.Header.{Header}
-use Rattle.stores.specs.declared.header.Header.TheVariants.{Is as Headed, Refused as Unopened}
 use Rattle.stores.specs.Headers.{open_of}
 use Rattle.stores.specs.Promise.{Slices, call_of, lent_of, Heeds}
 use Rattle.stores.proofs.Promises.{heeds_first, heeds_later}
@@ -92,12 +91,12 @@ kept_refused {os} {s} {k} ys P = record {
         rw q (record { says = e; leaves = D.leaves; answers = refl })
     decided t (are {bs}) D e = absurd (let a : tally (Err k) ≡ Ok (length bs) = D.answer ∙ rw (← e) in cc)
 
-    heeding : (h : Header) → h ≡ open_of (lent_of s) s.base → Heeds (to_blocks os (length ys)) s s ys ys (refused k)
-    heeding (Unopened r) e =
+    heeding : (h : Result Header Refusal) → h ≡ open_of (lent_of s) s.base → Heeds (to_blocks os (length ys)) s s ys ys (refused k)
+    heeding (Err r) e =
         let a = P.first r (sym e) in
         let q : k ≡ r = cc in
         rw q (heeds_first (to_blocks os (length ys)) s e ys refl)
-    heeding (Headed c) e = heeds_later (to_blocks os (length ys)) s e refl
+    heeding (Ok c) e = heeds_later (to_blocks os (length ys)) s e refl
         (λ j q. let i : k ≡ j = cc in rw (← i, P.later c (sym e)))
         (λ j q n. (refl, refl))
 
@@ -122,9 +121,9 @@ module _ {os : List ℕ} {s : Slices} {f : Found} {ys : List Block} (P : SearchP
   says_not k e = let y : ◌≡◌ {A = ℕ} 0 1 = cc in omega arith
 
   -- of any contents
-  heeding : (h : Header) → h ≡ open_of (lent_of s) s.base → Heeds (to_blocks os (length ys)) s s ys zs (says_blocked zs (Ok f.count))
-  heeding (Unopened r) e = absurd (let a = P.first r (sym e) in cc)
-  heeding (Headed c) e = heeds_later (to_blocks os (length ys)) s e refl (λ k q. absurd (says_not k q)) (λ k q n. absurd (says_not k q))
+  heeding : (h : Result Header Refusal) → h ≡ open_of (lent_of s) s.base → Heeds (to_blocks os (length ys)) s s ys zs (says_blocked zs (Ok f.count))
+  heeding (Err r) e = absurd (let a = P.first r (sym e) in cc)
+  heeding (Ok c) e = heeds_later (to_blocks os (length ys)) s e refl (λ k q. absurd (says_not k q)) (λ k q n. absurd (says_not k q))
 
   pub kept : BlocksPromise os s s ys zs (says_blocked zs (Ok f.count))
   kept = record {

@@ -2,7 +2,7 @@
 use Rattle.std.proofs.Common.{◌≡◌, Result, Ok, Err, IfOk, ℕ, ◌+◌, ◌<◌, ◌≤◌, Bool, true, false, not, eqb, ltb, ◌⊎◌, List, [], ◌∷◌, length, get_or, take, drop, replicate, sym, refl, ap, ◌∙◌, inl, inr, arith, length-drop, drop_of_length-le, length-take, length-take-le, get_or-drop, drop-drop, rules, le-ltb}
 use mathlib.Core.Option.{none, some}
 use Rattle.rules.specs.declared.Block.{Block}
-use Rattle.rules.specs.declared.Plan.{Plan as Header-as-Plan}
+use Rattle.rules.specs.declared.Plan.{Plan as Header}
 use Rattle.rules.specs.declared.Refusal.{Refusal}
 use Rattle.rules.specs.declared.Refusal.TheVariants.{ShortAnswer}
 use Rattle.rules.specs.Lists.{tick}
@@ -16,11 +16,9 @@ use Rattle.rules.proofs.Runs.{blocks_cyclic}
 use Rattle.graphs.specs.Graph.{live}
 use Rattle.routes.specs.Desks.{edges_of, routes_of}
 use Rattle.times.specs.Words.{time_words, cyclic_in, makespan_in, starts_in}
-use Rattle.stores.specs.declared.header.Header.{Header}
-use Rattle.stores.specs.declared.header.Header.TheVariants.{Is as Headed, Refused as Unopened}
-use Rattle.stores.specs.Headers.{open_of, counts_of, lens}
+use Rattle.stores.specs.Headers.{open_of, counts_of, Opened}
 use Rattle.stores.specs.Promise.{Slices, lent_of, call_of, after, Held, StandsFor}
-use Rattle.stores.proofs.Openings.{Opened, open_is, open_none, open_short, open_some}
+use Rattle.stores.proofs.Openings.{open_none, open_short, open_some}
 use Rattle.stores.proofs.Readings.{times_starts}
 use Rattle.stores.proofs.Scores.{timed}
 use Rattle.stores.proofs.Promises.{closed_kept, decided_read, decided_refused, refusal_long}
@@ -59,32 +57,13 @@ module _ {e sp st l os : List ℕ} {top n all room : ℕ} {c : List ℕ} {q : Re
 
 -- ── `search` ──
 
--- what the header says of lengths and counts
-module _ (b s e r t : ℕ) (l : List ℕ) {h : Header} {plan : Header-as-Plan} (opens : h ≡ open_of (lens b s e r t) l) (is : h ≡ Headed plan) where
-  told : Opened (lens b s e r t) l plan
-  told = open_is (lens b s e r t) l plan (sym opens ∙ is)
+-- what a store that opens says of lengths and counts
+module _ (s : Slices) {plan : Header} (O : Opened (lent_of s) plan) where
+  pub few_starts : {st : List ℕ} → st ≡ starts_in s.times → plan.jobs ≤ length st
+  few_starts es = rw es (simp (length-take, length-drop) (omega (arith, O.jobs, O.long.times)))
 
-  pub long_edges : edges_length ≤ e
-  long_edges = told.long.edges
-
-  pub long_spans : spans_length ≤ s
-  long_spans = told.long.spans
-
-  pub long_routes : routes_length ≤ r
-  long_routes = told.long.routes
-
-  pub long_times : times_length ≤ t
-  long_times = told.long.times
-
-  module _ {n : ℕ} (en : n ≡ plan.jobs) where
-    pub few_jobs : n ≤ most_jobs
-    few_jobs = let o = told in omega (arith, o.jobs)
-
-    pub few_starts : (ts : List ℕ) {st : List ℕ} → st ≡ starts_in ts → length ts ≡ t → n ≤ length st
-    few_starts ts es et = rw es (simp (length-take, length-drop) (let o = told in omega (arith, o.jobs, o.long.times)))
-
-    pub few_in : (x : List ℕ) → length x ≡ most_jobs → n ≤ length x
-    few_in x q = let o = told in omega (arith, o.jobs)
+  pub few_in : (x : List ℕ) → length x ≡ most_jobs → plan.jobs ≤ length x
+  few_in x q = omega (arith, O.jobs)
 
 mark_set : (b : Bool) → not (eqb (tick b 0) 0) ≡ b
 mark_set true = refl
@@ -94,16 +73,16 @@ mark_set false = refl
 cyclic_held : (l : List ℕ) (p : Plan) → take times_length l ≡ time_words p → cyclic_in l ≡ is_cyclic p
 cyclic_held l p e = ap (λ (x : ℕ). not (eqb x 0)) (timed p l e).0 ∙ mark_set (is_cyclic p)
 
-opens_not : {A : Type 0} {c : Header-as-Plan} {r : Refusal} → Headed c ≡ Unopened r → A
-opens_not e = absurd (let z : ◌≡◌ {A = ℕ} 0 1 = cc in omega arith)
+opens_not : {A : Type 0} {c : Header} {r : Refusal} → Ok c ≡ Err r → A
+opens_not e = absurd (cc)
 
 -- in the state t the rules refuse
 decided_no : {t : State} {os : List ℕ} {room : ℕ} {s : Slices} {k : Refusal} → refused k ≡ reply t (call_of (to_blocks os room) s)
     → s ≡ after t (call_of (to_blocks os room) s) s → SearchDecided t os room s (Err k)
 decided_no q l = record { answer = rw (← q); count = tt; leads = tt; leaves = l }
 
-module _ (os : List ℕ) (room : ℕ) (s : Slices) {h : Header} (opens : h ≡ open_of (lent_of s) s.base) where
-  pub searched_closed : {r : Refusal} → h ≡ Unopened r → SearchPromise os room s (Err r)
+module _ (os : List ℕ) (room : ℕ) (s : Slices) {h : Result Header Refusal} (opens : h ≡ open_of (lent_of s) s.base) where
+  pub searched_closed : {r : Refusal} → h ≡ Err r → SearchPromise os room s (Err r)
   searched_closed {r} e = record {
     decides = λ t k. let d = (closed_kept (to_blocks os room) s opens [] refl e).decides t k in decided_no d.says d.leaves;
     first = λ k q. let i : r ≡ k = cc in ap Err i;
@@ -111,7 +90,7 @@ module _ (os : List ℕ) (room : ℕ) (s : Slices) {h : Header} (opens : h ≡ o
     few = tt;
   }
 
-  module _ {plan : Header-as-Plan} (is : h ≡ Headed plan) {r : Result Found Refusal} where
+  module _ {plan : Header} (is : h ≡ Ok plan) {r : Result Found Refusal} where
     -- a store that opens stands for a plan, if it stands for anything
     opened : ((p : Plan) → is_short (lent_of s) ≡ false → Held s p → plan ≡ counts_of p.base → Finds p os room r) → Refuses r
         → IfOk r (λ f. f.count ≤ room) → SearchPromise os room s r
@@ -159,13 +138,13 @@ module _ (os : List ℕ) (room : ℕ) (s : Slices) {h : Header} (opens : h ≡ o
       spans = H.spans;
       starts = es ∙ times_starts p s.times H.times;
       ends = et ∙ (timed p s.times H.times).1;
-      jobs = en ∙ ap (λ (c : Header-as-Plan). c.jobs) z;
-      owners = ap (λ (c : Header-as-Plan). c.owners) z;
+      jobs = en ∙ ap (λ (c : Header). c.jobs) z;
+      owners = ap (λ (c : Header). c.owners) z;
       calm = sym (cyclic_held s.times p H.times) ∙ sym eb ∙ q;
     })) K.refuses K.few
 
   -- a cyclic plan has no blocks
-  pub searched_cyclic : {plan : Header-as-Plan} {b : Bool} {f : Found} → h ≡ Headed plan → b ≡ cyclic_in s.times → b ≡ true → f.count ≡ 0
+  pub searched_cyclic : {plan : Header} {b : Bool} {f : Found} → h ≡ Ok plan → b ≡ cyclic_in s.times → b ≡ true → f.count ≡ 0
       → SearchPromise os room s (Ok f)
   searched_cyclic {f = f} is eb q z =
       opened is (λ p y H w. none_found p (sym (cyclic_held s.times p H.times) ∙ sym eb ∙ q)) tt (rw z (omega arith))
@@ -177,16 +156,16 @@ module _ (os : List ℕ) (room : ℕ) (s : Slices) {h : Header} (opens : h ≡ o
 
 -- ── `next` ──
 
-pub moved_closed : (os : List ℕ) (s : Slices) (f : Found) (at r : Spot) {h : Header} {k : Refusal} → h ≡ open_of (lent_of s) s.base → h ≡ Unopened k
+pub moved_closed : (os : List ℕ) (s : Slices) (f : Found) (at r : Spot) {h : Result Header Refusal} {k : Refusal} → h ≡ open_of (lent_of s) s.base → h ≡ Err k
     → NextPromise os s f at r
 moved_closed os s f at r {h} {k} opens e = record { block = λ bs L. never L; leads = λ bs L. never L }
   where
     never : {A : Type 0} {bs : List Block} → Leads os s f at bs → A
     never L = opens_not (sym (open_some s L.long L.plan L.held) ∙ sym opens ∙ e)
 
-module _ {os : List ℕ} {s : Slices} {f : Found} {at r : Spot} {h : Header} {plan : Header-as-Plan} {st : List ℕ} {n : ℕ}
+module _ {os : List ℕ} {s : Slices} {f : Found} {at r : Spot} {h : Result Header Refusal} {plan : Header} {st : List ℕ} {n : ℕ}
     (N : Stepped (take edges_length s.edges) (sight (take spans_length s.spans) st f.crit n) (take routes_length s.routes) plan.owners
-    os at r) (es : st ≡ starts_in s.times) (en : n ≡ plan.jobs) (is : h ≡ Headed plan) (opens : h ≡ open_of (lent_of s) s.base) where
+    os at r) (es : st ≡ starts_in s.times) (en : n ≡ plan.jobs) (is : h ≡ Ok plan) (opens : h ≡ open_of (lent_of s) s.base) where
   -- read off the plan
   module _ {bs : List Block} (L : Leads os s f at bs) where
     abbrev p : Plan
@@ -198,7 +177,7 @@ module _ {os : List ℕ} {s : Slices} {f : Found} {at r : Spot} {h : Header} {pl
     same : (x : Spot) → ahead (live (edges_of p)) (sight (take spans_length s.spans) st f.crit n) (routes_of p) plan.owners os x
         ≡ ahead_of p f.crit os x
     unfolding ahead_of
-    same x = λ i. ahead (live (edges_of p)) (sight (L.held.spans i) ((es ∙ times_starts p s.times L.held.times) i) f.crit ((en ∙ ap (λ (c : Header-as-Plan). c.jobs) counts) i))
+    same x = λ i. ahead (live (edges_of p)) (sight (L.held.spans i) ((es ∙ times_starts p s.times L.held.times) i) f.crit ((en ∙ ap (λ (c : Header). c.jobs) counts) i))
         (routes_of p) (counts i).owners os x
 
     abbrev Next : Type 0
@@ -234,4 +213,4 @@ finding bs i L N =
     (N.block (drop i bs) L ∙ get_or-drop i bs 0 no_block ∙ ap (λ (k : ℕ). get_or bs k no_block) z, rw (← drop-drop 1 i bs) (N.leads (drop i bs) L))
 
 -- what the functions of the search are proved by
-pub ruleset searching = (rules, counted_none, counted_all, long_spans, long_edges, long_routes, long_times, few_jobs, few_starts, few_in, length-take-le, searched_closed, searched_cyclic, searched_calm, moved_closed, moved_on_lem)
+pub ruleset searching = (rules, counted_none, counted_all, few_starts, few_in, length-take-le, searched_closed, searched_cyclic, searched_calm, moved_closed, moved_on_lem)

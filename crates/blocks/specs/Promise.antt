@@ -11,7 +11,6 @@ use Rattle.rules.specs.Routes.{Plan, State}
 use Rattle.rules.specs.Sizes.{is_short}
 use Rattle.rules.specs.Calls.{Call, Reply, refused, scored, changed, counted, lined_up, cycled, started, blocked, rerouted, reply, to_blocks}
 use Rattle.rules.specs.Blocks.{no_block}
-use Rattle.stores.specs.declared.header.Header.TheVariants.{Is, Refused as Unopened}
 use Rattle.stores.specs.Headers.{open_of}
 use Rattle.stores.specs.Promise.{Slices, Held, StandsFor, lent_of, call_of, after, Heeds}
 use Rattle.blocks.specs.Searches.{ahead_of, tally}
@@ -85,8 +84,8 @@ pub record SearchDecided (t : State) (os : List ℕ) (room : ℕ) (s : Slices) (
 -- of every state that the store stands for, and of any contents: what lengths and header refuse is refused, else 10 alone
 pub record SearchPromise (os : List ℕ) (room : ℕ) (s : Slices) (r : Result Found Refusal) : Type 0 where
   pub decides : (t : State) → StandsFor s t → SearchDecided t os room s r
-  pub first : (k : Refusal) → open_of (lent_of s) s.base ≡ Unopened k → r ≡ Err k
-  pub later : (c : Counts) → open_of (lent_of s) s.base ≡ Is c → IfErr r (λ k. k ≡ ShortAnswer)
+  pub first : (k : Refusal) → open_of (lent_of s) s.base ≡ Err k → r ≡ Err k
+  pub later : (c : Counts) → open_of (lent_of s) s.base ≡ Ok c → IfErr r (λ k. k ≡ ShortAnswer)
   pub few : IfOk r (λ f. f.count ≤ room)
 
 -- the next of the blocks that the search leads to (a record of zeros where there is none), and then to the others

@@ -1,7 +1,7 @@
 // The public calls: the critical blocks of a list of owners, written as records into a lent list, or found one at a time.
 ghost use Rattle.std.specs.Prelude.{◌≡◌, ◌≤◌, length};
 ghost use Rattle.rules.specs.Sizes.{edges_length, most_jobs, routes_length};
-ghost use Rattle.stores.specs.Promise.{slices};
+ghost use Rattle.stores.specs.Held.{held};
 ghost use Rattle.blocks.specs.Overs.{begun};
 ghost use Rattle.blocks.specs.Searches.{Counts};
 ghost use Rattle.blocks.specs.Promise.{BlocksPromise, SearchPromise, NextPromise, says_blocked};
@@ -10,7 +10,7 @@ use crate::critical::critical;
 use crate::owners::Asked;
 use crate::runs::Sight;
 use rules::{Block, Plan, Refusal};
-use stores::header::{Header, opened};
+use stores::store::Store;
 use times::{is_cyclic, makespan};
 
 // What a search found: the critical jobs, where to go on from, and how many blocks there are.
@@ -75,99 +75,65 @@ fn counted(
 }
 
 // The search for a list of owners' blocks, in a list that has `room` places.
-pub fn search(
-    base: &[u32],
-    spans: &[u64],
-    edges: &[u16],
-    routes: &[u16],
-    times: &[u64],
-    owners: &[u32],
-    room: usize,
-) -> Result<Found, Refusal>
-    ensures { SearchPromise owners.now room
-        (slices base.now spans.now edges.now routes.now times.now) result }
+pub fn search(store: Store, owners: &[u32], room: usize) -> Result<Found, Refusal>
+    ensures { SearchPromise owners.now room (held store.entry) result }
 {
-    match opened(base, spans.len(), edges.len(), routes.len(), times.len()) {
-        Header::Refused(r) => Err(r),
-        Header::Is(plan) => {
-            if is_cyclic(times) {
-                return Ok(Found {
-                    crit: [0u8; Plan::JOBS],
-                    spot: outset(),
-                    count: 0,
-                });
-            }
-            let asked = Asked {
-                edges: &edges[..Plan::EDGES],
-                routes: &routes[..Plan::ROUTES],
-                all: plan.owners,
-                owners,
-            };
-            counted(
-                asked,
-                &spans[..Plan::SPANS],
-                times::starts(times),
-                makespan(times),
-                plan.jobs as usize,
-                room,
-            )
-        }
+    let plan = store.plan()?;
+    if is_cyclic(store.times) {
+        return Ok(Found {
+            crit: [0u8; Plan::JOBS],
+            spot: outset(),
+            count: 0,
+        });
     }
+    let asked = Asked {
+        edges: &store.edges[..Plan::EDGES],
+        routes: &store.routes[..Plan::ROUTES],
+        all: plan.owners,
+        owners,
+    };
+    counted(
+        asked,
+        &store.spans[..Plan::SPANS],
+        times::starts(store.times),
+        makespan(store.times),
+        plan.jobs as usize,
+        room,
+    )
 }
 
 // The next block of a search.
-pub fn next(
-    base: &[u32],
-    spans: &[u64],
-    edges: &[u16],
-    routes: &[u16],
-    times: &[u64],
-    owners: &[u32],
-    found: Found,
-    at: Spot,
-) -> Spot
-    ensures { NextPromise owners.now
-        (slices base.now spans.now edges.now routes.now times.now) found at result }
+pub fn next(store: Store, owners: &[u32], found: Found, at: Spot) -> Spot
+    ensures { NextPromise owners.now (held store.entry) found at result }
 {
-    match opened(base, spans.len(), edges.len(), routes.len(), times.len()) {
-        Header::Refused(_) => outset(),
-        Header::Is(plan) => {
-            let crit = found.crit;
-            let sight = Sight {
-                spans: &spans[..Plan::SPANS],
-                starts: times::starts(times),
-                crit: &crit,
-                n: plan.jobs as usize,
-            };
-            let asked = Asked {
-                edges: &edges[..Plan::EDGES],
-                routes: &routes[..Plan::ROUTES],
-                all: plan.owners,
-                owners,
-            };
-            asked.step(sight, at)
-        }
-    }
+    let Ok(plan) = store.plan() else {
+        return outset();
+    };
+    let sight = Sight {
+        spans: &store.spans[..Plan::SPANS],
+        starts: times::starts(store.times),
+        crit: &found.crit,
+        n: plan.jobs as usize,
+    };
+    let asked = Asked {
+        edges: &store.edges[..Plan::EDGES],
+        routes: &store.routes[..Plan::ROUTES],
+        all: plan.owners,
+        owners,
+    };
+    asked.step(sight, at)
 }
 
-pub fn blocks(
-    base: &[u32],
-    spans: &[u64],
-    edges: &[u16],
-    routes: &[u16],
-    times: &[u64],
-    owners: &[u32],
-    out: &mut [Block],
-) -> Result<usize, Refusal>
+// The blocks of a list of owners, as records in the answer buffer.
+pub fn blocks(store: Store, owners: &[u32], out: &mut [Block]) -> Result<usize, Refusal>
     ensures { BlocksPromise owners.now
-        (slices base.now spans.now edges.now routes.now times.now)
-        (slices base.now spans.now edges.now routes.now times.now)
+        (held store.entry) (held store.entry)
         out.old out.new (says_blocked out.new result) }
 {
-    let found = search(base, spans, edges, routes, times, owners, out.len())?;
+    let found = search(store, owners, out.len())?;
     let mut at = found.spot;
     for i in 0..found.count {
-        at = next(base, spans, edges, routes, times, owners, found, at);
+        at = next(store, owners, found, at);
         out[i] = at.block;
     }
     Ok(found.count)
