@@ -22,7 +22,8 @@ use Rattle.std.specs.Prelude.{Option, Some, None}
 use Rattle.edges.specs.Layout.{counts_at, heads_at, most_edges, starts_length}
 use Rattle.edges.specs.Rows.{flat, offs, pad, zeros}
 use Rattle.edges.specs.Edges.{Edge, Model, Wf, add_edge, count_of, has_edge, head_starts, head_words, count_words, times_of, to_of}
-use Rattle.edges.specs.Drafting.{Appended, Draft, Joined, Last, Ready, Spacious, grown, tail_of, tails_to}
+use Rattle.edges.specs.Drafting.{Appended, Drafts, Joined, Last, Ready, Spacious, grown, tail_of, tails_to}
+use Rattle.edges.specs.declared.fixed.Draft.{Draft}
 use Rattle.edges.proofs.Rows as rows
 use Rattle.edges.proofs.Row.{Split, none, one, split}
 use Rattle.edges.proofs.Tabs.{Five, at_sc, at_st, five_long, new_st}
@@ -114,11 +115,11 @@ low_more (x ∷ l) v h k (suc i) = low_more l v (λ j. h (suc j)) k i
 
 -- ── a draft ──
 
-module _ {m : Model} {l : List Pair} {e tails out ins : List ℕ} {t : ℕ} (D : Draft m l e tails out ins t) where
+module _ {m : Model} {l : List Pair} {e : List ℕ} {d : Draft} (D : Drafts m l e d) where
   wf : Wf m
   wf = D.order.wf
 
-  pub total : length (flat m.succ) ≡ t
+  pub total : length (flat m.succ) ≡ d.edges
   total = sym (length-map (flat m.succ) to_of) ∙ sym (ap length D.order.heads) ∙ length-map l head_of ∙ sym D.total
 
   pub five : Five e (zeros starts_length) (head_words m) (count_words m) (zeros starts_length) (zeros most_edges)
@@ -134,43 +135,43 @@ module _ {m : Model} {l : List Pair} {e tails out ins : List ℕ} {t : ℕ} (D :
   pub e_long : length e ≡ edges_length
   e_long = five_long five
 
-  pub tails_long : length tails ≡ most_edges
+  pub tails_long : length d.tails ≡ most_edges
   tails_long = ap length D.from ∙ rows.pad_length most_edges (map tail_of l) (omega (arith, length-map l tail_of, total, wf.room, D.total))
 
-  pub out_long : length out ≡ most_jobs
+  pub out_long : length d.out ≡ most_jobs
   out_long = ap length D.degrees ∙ length-map m.succ length ∙ wf.succ_rows
 
-  pub ins_long : length ins ≡ most_jobs
+  pub ins_long : length d.ins ≡ most_jobs
   ins_long = ap length D.in_degrees ∙ length-map m.pred length ∙ wf.pred_rows
 
-  degree : (u : ℕ) → get_or out u 0 ≡ length (get_or m.succ u [])
+  degree : (u : ℕ) → get_or d.out u 0 ≡ length (get_or m.succ u [])
   degree u = ap (λ (o : List ℕ). get_or o u 0) D.degrees ∙ get_or-map length m.succ u []
 
-  in_degree : (v : ℕ) → get_or ins v 0 ≡ length (get_or m.pred v [])
+  in_degree : (v : ℕ) → get_or d.ins v 0 ≡ length (get_or m.pred v [])
   in_degree v = ap (λ (o : List ℕ). get_or o v 0) D.in_degrees ∙ get_or-map length m.pred v []
 
-  module _ (u v : ℕ) (hu : u < most_jobs) (hv : v < most_jobs) (last : Last u m) (room : t < most_edges) where
+  module _ (u v : ℕ) (hu : u < most_jobs) (hv : v < most_jobs) (last : Last u m) (room : d.edges < most_edges) where
     abbrev row : List Edge
     row = get_or m.succ u []
 
     is_row : u < length m.succ
     is_row = omega (arith, wf.succ_rows)
 
-    row_ends : t ≡ get_or (head_starts m) (suc u) 0
+    row_ends : d.edges ≡ get_or (head_starts m) (suc u) 0
     row_ends = sym (end_last m.succ u is_row last ∙ total)
 
-    within : get_or out u 0 ≤ t
+    within : get_or d.out u 0 ≤ d.edges
     within = omega (arith, degree u, row_ends, rows.offs_next 0 m.succ u is_row)
 
     -- a search from f to t is one in the row
-    module _ (f : ℕ) (start : f ≡ t - get_or out u 0) (g : Option ℕ) (q : g ≡ find_from v f (slice f t (take most_edges (drop heads_at e)))) where
+    module _ (f : ℕ) (start : f ≡ d.edges - get_or d.out u 0) (g : Option ℕ) (q : g ≡ find_from v f (slice f d.edges (take most_edges (drop heads_at e)))) where
       row_starts : f ≡ get_or (head_starts m) u 0
       row_starts = omega (arith, degree u, row_ends, rows.offs_next 0 m.succ u is_row)
 
       found : find_from v f (map to_of row) ≡ g
       found =
-          sym (q ∙ ap (λ (x : List ℕ). find_from v f (slice f t x)) (at_st five).read
-          ∙ ap (find_from v f) (rows.row_slice to_of most_edges m.succ u is_row f t row_starts row_ends))
+          sym (q ∙ ap (λ (x : List ℕ). find_from v f (slice f d.edges x)) (at_st five).read
+          ∙ ap (find_from v f) (rows.row_slice to_of most_edges m.succ u is_row f d.edges row_starts row_ends))
 
       module _ (p : ℕ) (z : g ≡ Some p) where
         k : Split to_of v (get_or (head_starts m) u 0) row p
@@ -182,7 +183,7 @@ module _ {m : Model} {l : List Pair} {e tails out ins : List ℕ} {t : ℕ} (D :
         hit_times : get_or e (counts_at + p) 0 ≡ count_of m u v
         hit_times = (at_sc five).get p hit_low ∙ hits.count_there wf hu hv k
 
-        hit : Draft (add_edge m u v) (grown m l u v) (set e (counts_at + p) (get_or e (counts_at + p) 0 + 1)) tails out ins t
+        hit : Drafts (add_edge m u v) (grown m l u v) (set e (counts_at + p) (get_or e (counts_at + p) 0 + 1)) d
         hit =
             let x : ℕ = get_or e (counts_at + p) 0 + 1 in
             let is = hits.more_is wf hu hv k x (ap (λ (n : ℕ). n + 1) hit_times) in
@@ -213,8 +214,8 @@ module _ {m : Model} {l : List Pair} {e tails out ins : List ℕ} {t : ℕ} (D :
         flat_more : (h : Edge → ℕ) → map h (flat more.succ) ≡ map h (flat m.succ) ++ h (one v) ∷ []
         flat_more h = ap (map h) (flat_last m.succ u is_row last (one v)) ∙ map-append h (flat m.succ) (one v ∷ [])
 
-        push : (h : Edge → ℕ) → set (pad most_edges (map h (flat m.succ))) t (h (one v)) ≡ pad most_edges (map h (flat more.succ))
-        push h = pad_more most_edges t (map h (flat m.succ)) (h (one v)) (length-map (flat m.succ) h ∙ total) room
+        push : (h : Edge → ℕ) → set (pad most_edges (map h (flat m.succ))) d.edges (h (one v)) ≡ pad most_edges (map h (flat more.succ))
+        push h = pad_more most_edges d.edges (map h (flat m.succ)) (h (one v)) (length-map (flat m.succ) h ∙ total) room
             ∙ ap (pad most_edges) (sym (flat_more h))
 
         raised : {A : Type 0} {o : List ℕ} (r : List (List A)) (x : A) (i : ℕ) → o ≡ map length r
@@ -224,11 +225,10 @@ module _ {m : Model} {l : List Pair} {e tails out ins : List ℕ} {t : ℕ} (D :
             let j : get_or o i 0 + 1 ≡ length (get_or r i [] ++ x ∷ []) = omega (arith, length-append (get_or r i []) (x ∷ [])) in
             rw (j, q) (sym (map_set length r i (get_or r i [] ++ x ∷ [])))
 
-        miss : Draft (add_edge m u v) (grown m l u v) (set (set e (heads_at + t) v) (counts_at + t) 1) (set tails t u)
-            (set out u (get_or out u 0 + 1)) (set ins v (get_or ins v 0 + 1)) (t + 1)
-        miss =
+        miss : {e' : List ℕ} {d' : Draft} → Appended e d u v e' d' → Drafts (add_edge m u v) (grown m l u v) e' d'
+        miss A =
             let is = hits.new_is wf hu hv new in
-            let first = new_st five ((at_st five).store t v room) (length-set (head_words m) t v ∙ st_long m wf) in
+            let first = new_st five ((at_st five).store d.edges v room) (length-set (head_words m) d.edges v ∙ st_long m wf) in
             rw (new, is) (record {
               order = record {
                 wf = subst Wf is (wf_add m wf u v hu hv (omega (arith, total)));
@@ -236,14 +236,14 @@ module _ {m : Model} {l : List Pair} {e tails out ins : List ℕ} {t : ℕ} (D :
                 preds = rw D.order.preds (tails_set most_jobs l u v hv);
                 low = λ i. rw (map-append head_of l ((u, v) ∷ [])) (low_more (map head_of l) v D.order.low hv i);
               };
-              words = (at_sc first).store t 1 room ∙ tabs_eq refl (push to_of) (push times_of) refl refl;
+              words = A.words ∙ (at_sc first).store d.edges 1 room ∙ tabs_eq refl (push to_of) (push times_of) refl refl;
               from =
-                  ap (λ (x : List ℕ). set x t u) D.from
-                  ∙ pad_more most_edges t (map tail_of l) u (length-map l tail_of ∙ sym D.total) room
+                  A.from ∙ ap (λ (x : List ℕ). set x d.edges u) D.from
+                  ∙ pad_more most_edges d.edges (map tail_of l) u (length-map l tail_of ∙ sym D.total) room
                   ∙ ap (pad most_edges) (sym (map-append tail_of l ((u, v) ∷ [])));
-              degrees = raised m.succ (one v) u D.degrees;
-              in_degrees = raised m.pred u v D.in_degrees;
-              total = add-one t ∙ ap suc D.total ∙ sym (length-append l ((u, v) ∷ []) ∙ add-one (length l));
+              degrees = A.degrees ∙ raised m.succ (one v) u D.degrees;
+              in_degrees = A.in_degrees ∙ raised m.pred u v D.in_degrees;
+              total = A.total ∙ add-one d.edges ∙ ap suc D.total ∙ sym (length-append l ((u, v) ∷ []) ∙ add-one (length l));
             })
 
 -- ── for the code ──
@@ -251,9 +251,9 @@ module _ {m : Model} {l : List Pair} {e tails out ins : List ℕ} {t : ℕ} (D :
 row_short : {A : Type 0} (r : List (List A)) (i : ℕ) → i < length r → length (get_or r i []) ≤ length (flat r)
 row_short r i h = omega (arith, rows.offs_next 0 r i h, rows.offs_in 0 r (suc i) h)
 
-pub spacious : {m : Model} {l : List Pair} {e tails out ins : List ℕ} {t u v : ℕ} → Draft m l e tails out ins t → Last u m → t < most_edges
-    → u < most_jobs → v < most_jobs → Spacious e tails out ins t u v
-spacious {m} {l} {e} {tails} {out} {ins} {t} {u} {v} D last room hu hv =
+pub spacious : {m : Model} {l : List Pair} {e : List ℕ} {d : Draft} {u v : ℕ} → Drafts m l e d → Last u m → d.edges < most_edges
+    → u < most_jobs → v < most_jobs → Spacious e d u v
+spacious {m} {l} {e} {d} {u} {v} D last room hu hv =
     let a = row_short m.pred v (omega (arith, D.order.wf.pred_rows)) in
     record {
       e_long = e_long D;
@@ -267,33 +267,29 @@ spacious {m} {l} {e} {tails} {out} {ins} {t} {u} {v} D last room hu hv =
       fits_ins = omega (arith, in_degree D v, D.order.wf.paired, total D);
     }
 
--- what a search from t - d on found, where d is how many lead out of u
-module _ {e tails out ins : List ℕ} {t u v : ℕ} (R : Ready e tails out ins t u v) {d : ℕ} (ed : d ≡ get_or out u 0) {g : Option ℕ}
-    (q : g ≡ find_from v (t - d) (slice (t - d) t (take most_edges (drop heads_at e)))) where
-  abbrev S : Spacious e tails out ins t u v
+-- what a search from the row's start on found, where k lead out of u
+module _ {e : List ℕ} {d : Draft} {u v : ℕ} (R : Ready e d u v) {k : ℕ} (ed : k ≡ get_or d.out u 0) {g : Option ℕ}
+    (q : g ≡ find_from v (d.edges - k) (slice (d.edges - k) d.edges (take most_edges (drop heads_at e)))) where
+  abbrev S : Spacious e d u v
   S = R.space
 
-  begins : t - d ≡ t - get_or out u 0
-  begins = ap (λ (x : ℕ). t - x) ed
+  begins : d.edges - k ≡ d.edges - get_or d.out u 0
+  begins = ap (λ (x : ℕ). d.edges - x) ed
 
   module _ {p : ℕ} (z : g ≡ Some p) where
     pub seen_low : p < most_edges
-    seen_low = hit_low R.draft u v S.from S.to R.last S.room (t - d) begins g q p z
+    seen_low = hit_low R.draft u v S.from S.to R.last S.room (d.edges - k) begins g q p z
 
     module _ {n : ℕ} (en : n ≡ get_or e (counts_at + p) 0) where
       pub seen_fits : Fits w16 (n + 1)
       seen_fits =
-          let a = hit_times R.draft u v S.from S.to R.last S.room (t - d) begins g q p z in
+          let a = hit_times R.draft u v S.from S.to R.last S.room (d.edges - k) begins g q p z in
           record { fits = omega (arith, R.times) }
 
-      pub counts_more : {e' : List ℕ} → e' ≡ set e (counts_at + p) (n + 1) → Joined e tails out ins t u v e' tails out ins t
+      pub counts_more : {e' : List ℕ} → e' ≡ set e (counts_at + p) (n + 1) → Joined e d u v e' d
       counts_more w = record {
-        is = λ m l D last. rw (w, en) (hit D u v S.from S.to last S.room (t - d) begins g q p z);
+        is = λ m l D last. rw (w, en) (hit D u v S.from S.to last S.room (d.edges - k) begins g q p z);
       }
 
-  pub comes : g ≡ None → {e' tails' out' ins' : List ℕ} → Appended e tails out ins t u v e' tails' out' ins'
-      → Joined e tails out ins t u v e' tails' out' ins' (t + 1)
-  comes z A = record {
-    is = λ m l D last.
-        rw (A.words, A.from, A.degrees, A.in_degrees) (miss D u v S.from S.to last S.room (t - d) begins g q z);
-  }
+  pub comes : g ≡ None → {e' : List ℕ} {d' : Draft} → Appended e d u v e' d' → Joined e d u v e' d'
+  comes z A = record { is = λ m l D last. miss D u v S.from S.to last S.room (d.edges - k) begins g q z A }

@@ -1,15 +1,13 @@
 -- Pair after pair: what is left to add to the model at hand gives the model of the whole list. Assumes nothing.
-use Prim.Native.Nat.{ℕ, zero, suc, ◌+◌, ◌-◌, ◌≤◌, ◌<◌}
+use Prim.Native.Nat.{ℕ, zero, suc, ◌+◌, ◌≤◌, ◌<◌}
 use mathlib.Core.Path.{◌≡◌, refl, sym, ap, subst, ◌∙◌}
 use mathlib.Core.Bool.{Bool, true, false, cond}
 use mathlib.Core.List.{List, [], ◌∷◌, map}
 use native.Mathlib.Omega.{arith}
 use native.Mathlib.Numerals.{add-one}
 use lib.Dec.{leb, ltb}
-use lib.ListN.{length, get_or, take, drop, replicate, length-replicate, drop_of_length-le}
-use lib.Seq.{drop-cons, length-take-le, sets}
-use mir.Syntax.{w64}
-use mir.Val.{Fits}
+use lib.ListN.{length, get_or, take, drop, replicate, drop_of_length-le}
+use lib.Seq.{drop-cons, length-take-le}
 use borrow.Author.Tests.{leb-false, lt-ltb, le-ltb, ltb-false, ltb-true}
 use Rattle.rules.specs.Lists.{Pair, any_of, same_pair, tick}
 use Rattle.rules.specs.Sizes.{edges_length, falls, most_jobs}
@@ -19,20 +17,20 @@ use Rattle.edges.specs.Rows.{flat, zeros}
 use Rattle.edges.specs.Layout.{most_edges, starts_length}
 use Rattle.edges.specs.Edges.{Edge, Holds, Model, Wf, add_edge, count_of, more_in, to_of}
 use Rattle.edges.specs.Fixed.{Fixing, fixed_model, valid}
-use Rattle.edges.specs.Drafting.{Blank, Draft, Drafted, Gathered, Joined, Last, Listing, Ready, Turned, grown, tails_to}
+use Rattle.edges.specs.Drafting.{Blank, Drafted, Drafts, Gathered, Joined, Last, Listing, Ready, Turned, grown, tails_to}
+use Rattle.edges.specs.declared.fixed.Draft.{Draft}
 use Rattle.edges.proofs.Empty.{none_at, none_flat, none_pad, nothing, nothing_count, nothing_flat, nothing_row, nothing_wf, zeros_tabs}
 use Rattle.edges.proofs.More.{set_cases}
 use Rattle.edges.proofs.Adding.{adding, count_add, fixed_is, one_more, table_of}
 use Rattle.edges.proofs.Drafts as drafts
-use Rattle.edges.proofs.Sums.{sets_whole}
 
 -- the first i pairs are in the tables; the last of them came from `at`
-pub record Going (f g : List ℕ) (n i : ℕ) (e tails out ins : List ℕ) (t : ℕ) : Type 0 where
+pub record Going (f g : List ℕ) (n i : ℕ) (e : List ℕ) (d : Draft) : Type 0 where
   pub model : Model
   pub list : List Pair
   pub at : ℕ
   pub passed : i ≤ length f
-  pub draft : Draft model list e tails out ins t
+  pub draft : Drafts model list e d
   pub last : Last at model
   pub left : adding model (valid n (drop i f) (drop i g)) ≡ fixed_model n (valid n f g)
   pub below : any_of (leb n) (drop i f) ≡ false
@@ -47,8 +45,8 @@ unfolding zeros
 map_none A zero = refl
 map_none A (suc n) = ap {B = List ℕ} (λ l. 0 ∷ l) (map_none A n)
 
-module _ {e tails out ins : List ℕ} (B : Blank e tails out ins) where
-  blank_draft : (k : ℕ) → k ≡ most_jobs → Wf (nothing k) → Draft (nothing k) [] e tails out ins 0
+module _ {e : List ℕ} {d : Draft} (B : Blank e d) where
+  blank_draft : (k : ℕ) → k ≡ most_jobs → Wf (nothing k) → Drafts (nothing k) [] e d
   unfolding nothing
   blank_draft k q w = record {
     order = record {
@@ -63,7 +61,7 @@ module _ {e tails out ins : List ℕ} (B : Blank e tails out ins) where
     from = B.no_tails ∙ sym (none_pad most_edges);
     degrees = B.no_out ∙ ap zeros (sym q) ∙ map_none Edge k;
     in_degrees = B.no_ins ∙ ap zeros (sym q) ∙ map_none ℕ k;
-    total = refl;
+    total = B.none;
   }
 
 inside : (n : ℕ) (f g : List ℕ) → any_of (leb n) f ≡ false → Inside n (valid n f g)
@@ -97,7 +95,7 @@ module _ {f g : List ℕ} {n : ℕ} (L : Listing f g n) where
   target : adding (nothing most_jobs) (valid n f g) ≡ fixed_model n (valid n f g)
   target = fixed_is n (valid n f g) L.jobs (inside n f g L.below) fits
 
-  pub begins : {e tails out ins : List ℕ} → Blank e tails out ins → Going f g n 0 e tails out ins 0
+  pub begins : {e : List ℕ} {d : Draft} → Blank e d → Going f g n 0 e d
   begins B = record {
     model = nothing most_jobs;
     list = [];
@@ -114,18 +112,13 @@ module _ {f g : List ℕ} {n : ℕ} (L : Listing f g n) where
 
   -- ── a turn ──
 
-  module _ {i : ℕ} {e tails out ins : List ℕ} {t : ℕ} (G : Going f g n i e tails out ins t) (more : i < length f) where
-    abbrev u : ℕ
-    u = get_or f i 0
-
-    abbrev v : ℕ
-    v = get_or g i 0
-
+  module _ {i : ℕ} {e : List ℕ} {d : Draft} (G : Going f g n i e d) (more : i < length f) {u v : ℕ} (eu : u ≡ get_or f i 0)
+      (ev : v ≡ get_or g i 0) where
     here : drop i f ≡ u ∷ drop (suc i) f
-    here = drop-cons f i 0 more
+    here = rw eu (drop-cons f i 0 more)
 
     here' : drop i g ≡ v ∷ drop (suc i) g
-    here' = drop-cons g i 0 (omega (arith, L.even))
+    here' = rw ev (drop-cons g i 0 (omega (arith, L.even)))
 
     bounds : (u < n) × (any_of (leb n) (drop (suc i) f) ≡ false)
     bounds = let (x, y) = or_false {a = leb n u} (rw here at G.below) in (leb-false n u x, y)
@@ -136,13 +129,10 @@ module _ {f g : List ℕ} {n : ℕ} (L : Listing f g n) where
     from_low : u < most_jobs
     from_low = omega (arith, bounds.0, L.jobs)
 
-    pub from_fits : Fits w64 u
-    from_fits = record { fits = omega (arith, from_low) }
-
     behind : Last u G.model
     behind a h = G.last a (omega (arith, order.0))
 
-    pub ready : v < n → Ready e tails out ins t u v
+    pub ready : v < n → Ready e d u v
     ready h = record {
       model = G.model;
       list = G.list;
@@ -153,10 +143,8 @@ module _ {f g : List ℕ} {n : ℕ} (L : Listing f g n) where
     }
 
     -- the pair gives an edge
-    pub joined : v < n → {e' tails' out' ins' : List ℕ} {t' : ℕ}
-        → Joined e tails out ins t u v e' tails' out' ins' t'
-        → Going f g n (i + 1) e' tails' out' ins' t'
-    joined h D = record {
+    pub joined : v < n → {e' : List ℕ} {d' : Draft} → Joined e d u v e' d' → {j : ℕ} → j ≡ i + 1 → Going f g n j e' d'
+    joined h D q = rw q (record {
       model = add_edge G.model u v;
       list = grown G.model G.list u v;
       at = u;
@@ -169,7 +157,7 @@ module _ {f g : List ℕ} {n : ℕ} (L : Listing f g n) where
       few = omega (arith, one_more G.model G.draft.order.wf u v from_low to_low, G.few);
       counts = λ a b. rw (count_add G.model G.draft.order.wf u v from_low to_low a b, add-one)
           (step (same_pair (a, b) (u, v)) (G.counts a b));
-    }
+    })
       where
         to_low : v < most_jobs
         to_low = omega (arith, L.jobs)
@@ -182,8 +170,8 @@ module _ {f g : List ℕ} {n : ℕ} (L : Listing f g n) where
         alone = last_add G.model G.draft.order.wf u v from_low behind
 
     -- it gives none
-    pub passed_by : n ≤ v → Going f g n (i + 1) e tails out ins t
-    passed_by h = record {
+    pub passed_by : n ≤ v → {j : ℕ} → j ≡ i + 1 → Going f g n j e d
+    passed_by h q = rw q (record {
       model = G.model;
       list = G.list;
       at = u;
@@ -195,39 +183,24 @@ module _ {f g : List ℕ} {n : ℕ} (L : Listing f g n) where
       rising = rw add-one order.1;
       few = omega (arith, G.few);
       counts = λ a b. omega (arith, G.counts a b);
-    }
-
-  pub going_as : {i : ℕ} {e tails out ins e' tails' out' ins' : List ℕ} {t t' : ℕ} → e ≡ e' → tails ≡ tails' → out ≡ out' → ins ≡ ins'
-      → t ≡ t' → Going f g n i e' tails' out' ins' t' → Going f g n i e tails out ins t
-  going_as a b c d x G = rw (a, b, c, d, x) G
+    })
 
   -- ── the end ──
 
-  pub ends : {i : ℕ} {e tails out ins : List ℕ} {t : ℕ} → Going f g n i e tails out ins t → length f ≤ i → Gathered f g n e tails out ins t
-  ends {i} {e} {tails} {out} {ins} {t} G h =
+  pub ends : {i : ℕ} {e : List ℕ} {d : Draft} → Going f g n i e d → length f ≤ i → Gathered f g n e d
+  ends {i} {e} {d} G h =
       let z : G.model ≡ fixed_model n (valid n f g)
       = sym (ap (λ (x : List ℕ). adding G.model (valid n x (drop i g))) (drop_of_length-le f h)) ∙ G.left in
-      record { list = G.list; draft = subst (λ (m : Model). Draft m G.list e tails out ins t) z G.draft }
+      record { list = G.list; draft = subst (λ (m : Model). Drafts m G.list e d) z G.draft }
 
--- the lengths stay
-module _ {f g : List ℕ} {n i : ℕ} {e₀ tails₀ out₀ ins₀ e tails out ins : List ℕ} {t : ℕ} (B : Blank e₀ tails₀ out₀ ins₀)
-    (G : Going f g n i e tails out ins t) where
-  pub e_same : length e ≡ length e₀
-  e_same = drafts.e_long G.draft ∙ sym (ap length B.words ∙ drafts.zeros_long edges_length)
-
-  pub tails_same : length tails ≡ length tails₀
-  tails_same = drafts.tails_long G.draft ∙ sym (ap length B.no_tails ∙ drafts.zeros_long most_edges)
-
-  pub out_same : length out ≡ length out₀
-  out_same = drafts.out_long G.draft ∙ sym (ap length B.no_out ∙ drafts.zeros_long most_jobs)
-
-  pub ins_same : length ins ≡ length ins₀
-  ins_same = drafts.ins_long G.draft ∙ sym (ap length B.no_ins ∙ drafts.zeros_long most_jobs)
+-- the length stays
+pub e_same : {f g : List ℕ} {n i : ℕ} {e₀ e : List ℕ} {d₀ d : Draft} → Blank e₀ d₀ → Going f g n i e d → length e ≡ length e₀
+e_same B G = drafts.e_long G.draft ∙ sym (ap length B.words ∙ drafts.zeros_long edges_length)
 
 -- ── for the whole ──
 
-module _ {f g : List ℕ} {n : ℕ} {e tails out ins : List ℕ} {t : ℕ} (G : Gathered f g n e tails out ins t) where
-  pub drafted : Drafted e tails out ins t
+module _ {f g : List ℕ} {n : ℕ} {e : List ℕ} {d : Draft} (G : Gathered f g n e d) where
+  pub drafted : Drafted e d
   drafted = record {
     model = fixed_model n (valid n f g);
     list = G.list;
@@ -235,24 +208,17 @@ module _ {f g : List ℕ} {n : ℕ} {e tails out ins : List ℕ} {t : ℕ} (G : 
     e_long = drafts.e_long G.draft;
     out_long = drafts.out_long G.draft;
     ins_long = drafts.ins_long G.draft;
+    few = omega (arith, drafts.total G.draft, G.draft.order.wf.room);
   }
 
-  pub whole : {e' : List ℕ} → Turned e tails out ins t e' → Holds e' (fixed_model n (valid n f g))
+  pub whole : {e' : List ℕ} → Turned e d e' → Holds e' (fixed_model n (valid n f g))
   whole T = record { words = T.is (fixed_model n (valid n f g)) G.list G.draft; wf = G.draft.order.wf }
 
-pub blank : (e : List ℕ) {x : List ℕ} → x ≡ sets e 0 (replicate (length e - 0) 0) → length e ≡ edges_length
-    → Blank x (replicate most_edges 0) (replicate most_jobs 0) (replicate most_jobs 0)
+pub blank : (e : List ℕ) {x : List ℕ} → x ≡ replicate (length e) 0 → length e ≡ edges_length
+    → Blank x (record { tails = replicate most_edges 0; out = replicate most_jobs 0; ins = replicate most_jobs 0; edges = 0 })
 unfolding zeros
 blank e h q =
-    let a : length e - 0 ≡ length e = omega arith in
-    record {
-      words =
-          h ∙ ap (λ (k : ℕ). sets e 0 (replicate k 0)) a ∙ sets_whole e (replicate (length e) 0) (length-replicate (length e) 0)
-          ∙ ap (λ (k : ℕ). replicate k 0) q;
-      no_tails = refl;
-      no_out = refl;
-      no_ins = refl;
-    }
+    record { words = h ∙ ap (λ (k : ℕ). replicate k 0) q; no_tails = refl; no_out = refl; no_ins = refl; none = refl }
 
 pub listing : {e f g : List ℕ} {k n : ℕ} → Fixing e f g k n → Listing (take k f) (take k g) n
 listing {e} {f} {g} {k} F = record {

@@ -36,8 +36,8 @@ module _ {a₀ d a : List ℕ} {s i : ℕ} (S : Summing a₀ d a s i) where
   pub next_fits : i < length d → Fits w16 (s + get_or d i 0)
   next_fits h = let x = rw (drop-cons d i 0 h) at S.fits in record { fits = omega arith }
 
-  pub sums_long : length (set a i s) ≡ length a₀
-  sums_long = length-set a i s ∙ S.long
+  pub sums_long : length (set a (length d) s) ≡ length a₀
+  sums_long = length-set a (length d) s ∙ S.long
 
   pub one_more : i < length d → Summing a₀ d (set a i s) (s + get_or d i 0) (i + 1)
   unfolding running
@@ -48,11 +48,13 @@ module _ {a₀ d a : List ℕ} {s i : ℕ} (S : Summing a₀ d a s i) where
     left = rw add-one (sym (ap (λ (x : List ℕ). sets a i (running s x)) (drop-cons d i 0 h)) ∙ S.left);
   }
 
-  pub summed : length d ≤ i → length a₀ ≡ length d + 1 → set a i s ≡ running 0 d
+  pub summed : length d ≤ i → length a₀ ≡ length d + 1 → set a (length d) s ≡ running 0 d
   unfolding running
   summed h long =
+      let at : i ≡ length d = (let z = S.passed in omega arith) in
       let q : length (running 0 d) ≡ length a₀ = running_length 0 d ∙ sym (add-one (length d)) ∙ sym long in
-      sym (ap (λ (x : List ℕ). sets a i (running s x)) (drop_of_length-le d h)) ∙ S.left ∙ sets_whole a₀ (running 0 d) q
+      ap (λ (k : ℕ). set a k s) (sym at)
+      ∙ sym (ap (λ (x : List ℕ). sets a i (running s x)) (drop_of_length-le d h)) ∙ S.left ∙ sets_whole a₀ (running 0 d) q
 
 -- of the rows' lengths: where the rows start
 module _ {A : Type 0} where

@@ -10,7 +10,7 @@ use lib.Dec.{eqb}
 use lib.ListN.{length, get_or, set, take, drop, replicate, length-append, length-map, length-replicate, take-append-drop, get_or-map, drop_of_length-le, replicate-append-replicate}
 use lib.Seq.{drop-cons, take-suc, take_all, get_or-take, length-take-le}
 use borrow.Author.Tests.{eq-eqb, ne_eqb}
-use mir.Syntax.{w64}
+use mir.Syntax.{w16, w64}
 use mir.Val.{Fits}
 use Rattle.rules.specs.Lists.{Pair, table}
 use Rattle.rules.specs.Reports.{head_of}
@@ -128,7 +128,7 @@ pub record Spread (m : Model) (l : List Pair) (i : ℕ) (e next : List ℕ) : Ty
   pub words : e ≡ tabs (head_starts m) (head_words m) (count_words m) (tail_starts m) (pad most_edges (flat (rows_at l i)))
   pub places : next ≡ table most_jobs (cursor (tail_starts m) (take i l))
 
-module _ {m : Model} {l : List Pair} {e₀ tails next₀ : List ℕ} {t : ℕ} (T : Turning m l e₀ tails next₀ t) where
+module _ {m : Model} {l : List Pair} {e₀ tails next₀ : List ℕ} (T : Turning m l e₀ tails next₀) where
   wf : Wf m
   wf = T.order.wf
 
@@ -146,11 +146,11 @@ module _ {m : Model} {l : List Pair} {e₀ tails next₀ : List ℕ} {t : ℕ} (
   heads_long : length (map to_of (flat m.succ)) ≡ length l
   heads_long = sym (ap length T.order.heads) ∙ length-map l head_of
 
-  few : t ≤ most_edges
-  few = omega (arith, T.total, heads_long, length-map (flat m.succ) to_of, wf.room)
+  tails_long : length tails ≡ length l
+  tails_long = ap length T.from ∙ length-map l tail_of
 
-  tails_long : length tails ≡ most_edges
-  tails_long = ap length T.from ∙ rows.pad_length most_edges (map tail_of l) (omega (arith, length-map l tail_of, T.total, few))
+  few : length tails ≤ most_edges
+  few = omega (arith, tails_long, heads_long, length-map (flat m.succ) to_of, wf.room)
 
   spread_none : Spread m l 0 e₀ next₀
   spread_none = record {
@@ -176,12 +176,12 @@ module _ {m : Model} {l : List Pair} {e₀ tails next₀ : List ℕ} {t : ℕ} (
     next_long : length next ≡ most_jobs
     next_long = ap length S.places ∙ table_length most_jobs (cursor (tail_starts m) (take i l))
 
-    module _ (more : i < t) where
+    module _ (more : i < length tails) where
       abbrev edge : Pair
       edge = get_or l i (0, 0)
 
       in_list : i < length l
-      in_list = omega (arith, T.total)
+      in_list = omega (arith, tails_long)
 
       head_at : get_or (map head_of l) i 0 ≡ head_of edge
       head_at = get_or-map head_of l i (0, 0)
@@ -191,8 +191,7 @@ module _ {m : Model} {l : List Pair} {e₀ tails next₀ : List ℕ} {t : ℕ} (
 
       tail_is : get_or tails i 0 ≡ tail_of edge
       tail_is =
-          ap (λ (x : List ℕ). get_or x i 0) T.from ∙ rows.pad_get most_edges i (map tail_of l) (omega (arith, length-map l tail_of, in_list))
-          ∙ get_or-map tail_of l i (0, 0)
+          ap (λ (x : List ℕ). get_or x i 0) T.from ∙ get_or-map tail_of l i (0, 0)
 
       abbrev to_come : List Pair
       to_come = drop (suc i) l
@@ -245,44 +244,40 @@ module _ {m : Model} {l : List Pair} {e₀ tails next₀ : List ℕ} {t : ℕ} (
               ∙ ap (λ (x : List Pair). table most_jobs (cursor (tail_starts m) x)) (sym front);
         }
 
-    spread_all : t ≤ i → e ≡ encode m
+    spread_all : length tails ≤ i → e ≡ encode m
     unfolding encode
     spread_all h =
         let all : rows_at l i ≡ table most_jobs (tails_to l)
-        = rw (take_all i l (omega (arith, T.total)), drop_of_length-le l {i = i} (omega (arith, T.total)))
+        = rw (take_all i l (omega (arith, tails_long)), drop_of_length-le l {i = i} (omega (arith, tails_long)))
         (table_same most_jobs (part l []) (tails_to l) (λ v h. append-nil (tails_to l v))) in
         S.words ∙ tabs_eq refl refl refl refl (ap (λ (x : List (List ℕ)). pad most_edges (flat x)) (all ∙ sym T.order.preds))
 
 -- ── for the loop: whatever model the words at entry hold ──
 
-pub record Spreading (e₀ tails next₀ : List ℕ) (t : ℕ) (e next : List ℕ) (i : ℕ) : Type 0 where
-  pub known : Turnable e₀ tails next₀ t
-  pub spread : (m : Model) (l : List Pair) → Turning m l e₀ tails next₀ t → Spread m l i e next
-  pub room : t ≤ most_edges
+pub record Spreading (e₀ tails next₀ e next : List ℕ) (i : ℕ) : Type 0 where
+  pub known : Turnable e₀ tails next₀
+  pub spread : (m : Model) (l : List Pair) → Turning m l e₀ tails next₀ → Spread m l i e next
   pub e_long : length e ≡ edges_length
-  pub tails_long : length tails ≡ most_edges
   pub next_long : length next ≡ most_jobs
 
-pub spreading : {e tails next : List ℕ} {t : ℕ} → Turnable e tails next t → Spreading e tails next t e next 0
+pub spreading : {e tails next : List ℕ} → Turnable e tails next → Spreading e tails next e next 0
 spreading K =
     let T = K.turning in
     record {
       known = K;
       spread = λ m l T. spread_none T;
-      room = few T;
       e_long = five_long (five T (spread_none T));
-      tails_long = tails_long T;
       next_long = next_long T (spread_none T);
     }
 
-module _ {e₀ tails next₀ : List ℕ} {t : ℕ} {e next : List ℕ} {i : ℕ} (S : Spreading e₀ tails next₀ t e next i) where
-  abbrev now : Turning S.known.model S.known.list e₀ tails next₀ t
+module _ {e₀ tails next₀ e next : List ℕ} {i : ℕ} (S : Spreading e₀ tails next₀ e next i) where
+  abbrev now : Turning S.known.model S.known.list e₀ tails next₀
   now = S.known.turning
 
   abbrev so_far : Spread S.known.model S.known.list i e next
   so_far = S.spread S.known.model S.known.list now
 
-  pub scattered : t ≤ i → Scattered e₀ tails next₀ t e
+  pub scattered : length tails ≤ i → Scattered e₀ tails next₀ e
   scattered h = record { is = λ m l T. spread_all T (S.spread m l T) h }
 
   pub e_same : length e ≡ length e₀
@@ -291,30 +286,32 @@ module _ {e₀ tails next₀ : List ℕ} {t : ℕ} {e next : List ℕ} {i : ℕ}
   pub next_same : length next ≡ length next₀
   next_same = S.next_long ∙ sym (spreading S.known).next_long
 
-  module _ (more : i < t) {v : ℕ} (ev : v ≡ get_or e (heads_at + i) 0) where
-    pub head_in : v < length next
-    head_in = rw S.next_long (rw (v_is now so_far more v _ ev refl) (low now so_far more))
+  module _ (more : i < length tails) where
+    pub head_in : heads_at + i < length e
+    head_in = omega (arith, few now, S.e_long)
 
-    pub tail_fits : get_or next v 0 < 65535
-    tail_fits = omega (arith, place_within now so_far more v _ ev refl)
+    module _ {v : ℕ} (ev : v ≡ get_or e (heads_at + i) 0) where
+      pub place_in : v < length next
+      place_in = rw S.next_long (rw (v_is now so_far more v _ ev refl) (low now so_far more))
 
-    pub head_scaled : Fits w64 (v * 2)
-    head_scaled = record { fits = omega (arith, head_in, S.next_long) }
+      pub next_fits : Fits w16 (get_or next v 0 + 1)
+      next_fits = record { fits = omega (arith, place_within now so_far more v _ ev refl) }
 
-    module _ {p : ℕ} (ep : p ≡ get_or next v 0) where
-      pub tail_in : p < most_edges
-      tail_in = place_within now so_far more v p ev ep
+      pub place_scaled : Fits w64 (v * 2)
+      place_scaled = record { fits = omega (arith, place_in, S.next_long) }
 
-      pub spread_more : {e' next' : List ℕ} → e' ≡ set e (tails_at + p) (get_or tails i 0) → next' ≡ set next v (get_or next v 0 + 1)
-          → Spreading e₀ tails next₀ t e' next' (i + 1)
-      spread_more {e'} {next'} ee en =
-          let turned : (m : Model) (l : List Pair) → Turning m l e₀ tails next₀ t → Spread m l (i + 1) e' next'
-          = λ m l T. rw (ee, en, ← ep) (spread_turn T (S.spread m l T) more v p ev ep) in
-          record {
-            known = S.known;
-            spread = turned;
-            room = S.room;
-            e_long = five_long (five now (turned S.known.model S.known.list now));
-            tails_long = S.tails_long;
-            next_long = next_long now (turned S.known.model S.known.list now);
-          }
+      module _ {p : ℕ} (ep : p ≡ get_or next v 0) where
+        pub tail_in : tails_at + p < length e
+        tail_in = omega (arith, place_within now so_far more v p ev ep, S.e_long)
+
+        pub spread_more : {e' next' : List ℕ} → e' ≡ set e (tails_at + p) (get_or tails i 0) → next' ≡ set next v (get_or next v 0 + 1)
+            → Spreading e₀ tails next₀ e' next' (i + 1)
+        spread_more {e'} {next'} ee en =
+            let turned : (m : Model) (l : List Pair) → Turning m l e₀ tails next₀ → Spread m l (i + 1) e' next'
+            = λ m l T. rw (ee, en, ← ep) (spread_turn T (S.spread m l T) more v p ev ep) in
+            record {
+              known = S.known;
+              spread = turned;
+              e_long = five_long (five now (turned S.known.model S.known.list now));
+              next_long = next_long now (turned S.known.model S.known.list now);
+            }

@@ -1,17 +1,11 @@
-use Rattle.edges.proofs.Gathers.{blank, drafted, handed, listing, whole}
+use Rattle.edges.proofs.Gathers.{blank, drafted, listing, whole}
 use Rattle.edges.proofs.fixed.fixed.Goals as goal
 
-pub slice_bounds-gather-end-4 : goal.slice_bounds-gather-end-4
-slice_bounds-gather-end-4 c = search handed
-
-pub slice_bounds-gather-end-5 : goal.slice_bounds-gather-end-5
-slice_bounds-gather-end-5 c = search handed
-
-pub gather-t-requires : goal.gather-t-requires
-gather-t-requires c = (search blank, search listing)
+pub gather-requires : goal.gather-requires
+gather-requires c = (blank c.args.e.now (c.fill.ensures.after (λ y h. h)) c.requires.size, search listing)
 
 pub turn-requires : goal.turn-requires
-turn-requires c = drafted c.gather-t.ensures
+turn-requires c = drafted c.gather.ensures
 
 pub returns : goal.returns
 returns c = search whole

@@ -1,21 +1,32 @@
-use Rattle.edges.proofs.Turns.{e_same, head_in, head_scaled, next_same, scattered, spread_more, spreading, tail_fits, tail_in}
-use borrow.Author.Rules.{rules}
+use Rattle.edges.proofs.Turns.{e_same, head_in, next_fits, next_same, place_in, place_scaled, scattered, spread_more, spreading, tail_in}
 use Rattle.edges.proofs.fixed.scatter.Goals as goal
 
 pub loop-i-init : goal.loop-i-init
 loop-i-init c = search spreading
 
+pub bounds-e-i : goal.bounds-e-i
+bounds-e-i c = search head_in
+
 pub offset_bounds-next-v : goal.offset_bounds-next-v
-offset_bounds-next-v c = search head_scaled
+offset_bounds-next-v c = search place_scaled
 
 pub bounds-next-v : goal.bounds-next-v
-bounds-next-v c = search head_in
+bounds-next-v c = search place_in
 
-pub tail-requires : goal.tail-requires
-tail-requires c = (search rules, search tail_in)
+pub bounds-e-p : goal.bounds-e-p
+bounds-e-p c = search tail_in
 
-pub raise-requires : goal.raise-requires
-raise-requires c = (search head_in, search tail_fits)
+pub offset_bounds-next-v-in-loop-i : goal.offset_bounds-next-v-in-loop-i
+offset_bounds-next-v-in-loop-i c = search place_scaled
+
+pub bounds-next-v-in-loop-i : goal.bounds-next-v-in-loop-i
+bounds-next-v-in-loop-i c = search place_in
+
+pub overflow_add-next : goal.overflow_add-next
+overflow_add-next c = search next_fits
+
+pub bounds-next-v-in-loop-i-2 : goal.bounds-next-v-in-loop-i-2
+bounds-next-v-in-loop-i-2 c = search place_in
 
 pub loop-i-preserved : goal.loop-i-preserved
 loop-i-preserved c = search spread_more

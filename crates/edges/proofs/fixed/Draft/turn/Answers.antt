@@ -1,6 +1,6 @@
 use borrow.Author.Rules.{rules}
 use Rattle.edges.proofs.Closing.{ins_fits, out_fits, turnable, turned}
-use Rattle.edges.proofs.fixed.turn.Goals as goal
+use Rattle.edges.proofs.fixed.Draft.turn.Goals as goal
 
 pub sums-requires : goal.sums-requires
 sums-requires c = (search rules, search out_fits)

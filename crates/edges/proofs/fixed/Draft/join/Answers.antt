@@ -1,6 +1,6 @@
 use borrow.Author.Rules.{rules}
 use Rattle.edges.proofs.Drafts.{comes, counts_more, seen_fits, seen_low}
-use Rattle.edges.proofs.fixed.join.Goals as goal
+use Rattle.edges.proofs.fixed.Draft.join.Goals as goal
 
 pub times-n-requires : goal.times-n-requires
 times-n-requires c = search (rules, seen_low)
