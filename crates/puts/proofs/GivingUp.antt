@@ -8,12 +8,12 @@ use mathlib.Core.Bool.{Bool, true, false, cond}
 use mathlib.Core.List.{List, [], ◌++◌, append-nil}
 use lib.Dec.{eqb}
 use lib.ListN.{length, get_or, take}
-use lib.Seq.{sets, slice, take-suc, take_all}
+use lib.Seq.{take-suc, take_all, take_at}
 use borrow.Author.Rules.{rules}
 use borrow.Author.Tests.{eq-eqb, ne_eqb}
 use Rattle.std.specs.Prelude.{Result, Ok, Err}
 use Rattle.std.specs.Result.{IsErr}
-use Rattle.rules.specs.Sizes.{most_entries, most_owners}
+use Rattle.rules.specs.Sizes.{most_entries}
 use Rattle.rules.specs.Routes.{Plan, Route, Emptied, empty_route, route_of, in_force, empty, emptied, without}
 use Rattle.rules.specs.Sound.{Sound}
 use Rattle.rules.specs.Steps.{staging, turning, amid, begun, unwaited}
@@ -28,7 +28,7 @@ use Rattle.routes.proofs.Sweeping.{err_never, ok_same, never_ok}
 use Rattle.routes.proofs.Swapping.{done_both}
 use Rattle.routes.proofs.Waits.{waits_in, unwaited_sound}
 use Rattle.puts.specs.Puts.{Turned, RouteTurn, Emptier, OneEmptied, Freely, EachEmptied, AllEmptied}
-use Rattle.puts.proofs.Lists.{taken, whole, queues_none, queues_join}
+use Rattle.puts.proofs.Lists.{queues_none, queues_join}
 
 -- ── one of them ──
 
@@ -221,15 +221,10 @@ unwaited_desked {p = p} D C = record {
   sound = unwaited_sound p D.sound;
 }
 
--- who waits was copied
-who_waits : (who row : List ℕ) {who' : List ℕ} → who' ≡ sets who 0 (slice 0 (0 + length row) row) → length row ≤ length who
-    → take (length row) who' ≡ row
-who_waits who row e h = rw (e, whole row) (taken who row (length row) refl h)
-
-module _ {r e row who' : List ℕ} (who : List ℕ) (W : Waiting r row) (copied : who' ≡ sets who 0 (slice 0 (0 + length row) row))
-    (room : length who ≡ most_owners) {o : ℕ} {r' e' went went' : List ℕ} {a : Result ℕ Senseless} (E : EachEmptied r e (take (length row) who') o r' e' went went' a) where
+-- who waits was copied, and stands in front
+module _ {r e row copy : List ℕ} (behind : List ℕ) (W : Waiting r row) (copied : copy ≡ row) {o : ℕ} {r' e' went went' : List ℕ} {a : Result ℕ Senseless} (E : EachEmptied r e (take (length row) (copy ++ behind)) o r' e' went went' a) where
   each : (p : Plan) → Desked r e p → Freely p o (amid p (emptied p o)) r' e' went' a
-  each p D = E.freely p D (who_waits who row copied (let z = W.short in omega arith) ∙ waits_in p D.routes W)
+  each p D = E.freely p D (rw copied (take_at row behind (length row) refl) ∙ waits_in p D.routes W)
 
   pub all_bad : {z : Senseless} (b : Result ℕ Senseless) → a ≡ Err z → IsErr b → AllEmptied r e o r' e' went went' b
   all_bad b q k = record { within = λ h y. err_never k y; freely = λ p D. never_ok (sym q ∙ (each p D).answer) }

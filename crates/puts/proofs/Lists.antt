@@ -1,11 +1,10 @@
 -- Laws of lists: what is read of a list that was written, what heads queue. Assumes nothing.
 use Prim.Native.Nat.{ℕ, ◌+◌, ◌≤◌}
-use native.Mathlib.Nat.{zero-add}
 use native.Mathlib.Omega.{arith}
 use mathlib.Core.Path.{◌≡◌, refl, sym, ap, ◌∙◌}
 use mathlib.Core.List.{List, [], ◌∷◌, ◌++◌, map}
 use lib.ListN.{length, take, drop}
-use lib.Seq.{sets, slice, sets-eq, take_at, take_all}
+use lib.Seq.{sets, sets-eq, take_at}
 use Rattle.rules.specs.Lists.{Pair}
 use Rattle.rules.specs.Reports.{push, head_of}
 use Rattle.rules.proofs.Steps.{push_append}
@@ -14,10 +13,6 @@ use Rattle.routes.specs.Promises.{Queues}
 -- what was written at the front
 pub taken : (l x : List ℕ) (k : ℕ) → k ≡ length x → length x ≤ length l → take k (sets l 0 x) ≡ x
 taken l x k q h = rw (q, sets-eq x l 0 (omega arith)) (take_at x (drop (0 + length x) l) (length x) refl)
-
--- a whole list
-pub whole : (x : List ℕ) → slice 0 (0 + length x) x ≡ x
-whole x = rw zero-add (take_all (length x) x (omega arith))
 
 pub queues_none : Queues [] []
 queues_none q = refl

@@ -90,7 +90,7 @@ fn empty_all(
     let mut who = [0u16; Plan::OWNERS];
     let row = waiting(&r[..]);
     let k = row.len();
-    words::copy(&mut who, 0, row, 0, k);
+    who[..k].copy_from_slice(row);
     let h = empty_each(r, e, &who[..k], owner, went)?;
     clear(r);
     Ok(h)

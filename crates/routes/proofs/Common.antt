@@ -1,53 +1,62 @@
 -- The common front and back of two routes: `same_front` and `same_back`, and the middle that differs as the whole does. Assumes nothing.
-use Prim.Native.Nat.{ℕ, suc, ◌+◌, ◌-◌, ◌≤◌, ◌<◌}
-use native.Mathlib.Numerals.{add-one}
-use native.Mathlib.Omega.{arith}
-use mathlib.Core.Path.{◌≡◌, refl, sym, ap, ◌∙◌}
-use mathlib.Core.Bool.{Bool, true, false}
-use mathlib.Core.List.{List, [], ◌∷◌, ◌++◌, append-nil}
-use lib.ListN.{length, get_or, take, drop, take-append-drop}
-use lib.Seq.{take-suc, drop-cons, drop-length, drop-drop}
-use borrow.Author.Rules.{rules}
+use Rattle.std.proofs.Common.{◌≡◌, ℕ, ◌+◌, ◌-◌, ◌≤◌, Bool, true, false, eqb, ◌==◌, List, [], ◌∷◌, ◌++◌, length, take, drop, reverse, sym, refl, ap, ◌∙◌, append-nil, arith, length-drop, take-append-drop, take_at, drop-drop, eqb-true}
+use Rattle.std.specs.List.{zip}
+use Rattle.std.proofs.lemmas.List.Sums.{take_while-cons}
+use Rattle.std.proofs.lemmas.List.{length-reverse, reverse-append, reverse-reverse, take_rest}
 use Rattle.rules.specs.Lists.{memb, keep}
+use Rattle.rules.proofs.Ranges.{pass, fail, test}
 use Rattle.rules.proofs.Members.{memb_append, or_false}
-use Rattle.routes.specs.Differs.{SameFront, SameBack, seat_all, Differs}
+use Rattle.routes.specs.Differs.{SameFront, SameBack, alike, seat_all, Differs}
 use Rattle.routes.proofs.Lists.{times_append, keep_append, keep_none}
 
--- ── one more at the front, or at the back ──
+-- ── how many at the front are the same, or at the back ──
 
-pub front_none : (old new : List ℕ) → SameFront old new 0
+abbrev equal : ℕ × ℕ → Bool
+equal p = p.0 == p.1
+
+front_none : (old new : List ℕ) → SameFront old new 0
 front_none old new = record { in_old = omega arith; in_new = omega arith; same = refl }
 
-pub front_on : {old new : List ℕ} {i : ℕ} → SameFront old new i → get_or old i 0 ≡ get_or new i 0 → i < length old → i < length new
-    → SameFront old new (i + 1)
-front_on {old} {new} {i} s q h k = record {
-  in_old = omega arith;
-  in_new = omega arith;
-  same = rw (add-one, take-suc old i 0 h, take-suc new i 0 k, q, s.same);
-}
+front_is : (old new : List ℕ) → SameFront old new (alike old new)
+front_is [] new = front_none [] new
+front_is (x ∷ old) [] = front_none (x ∷ old) []
+front_is (x ∷ old) (y ∷ new) = elim (test (eqb x y)) [
+  | pass h ↦ let s = front_is old new in rw (take_while-cons equal (x, y) (zip old new), h) (record {
+    in_old = let a = s.in_old in omega arith;
+    in_new = let a = s.in_new in omega arith;
+    same = rw (eqb-true x y h) (ap (λ (l : List ℕ). y ∷ l) s.same);
+  })
+  | fail h ↦ rw (take_while-cons equal (x, y) (zip old new), h) (front_none (x ∷ old) (y ∷ new))
+]
 
-pub back_none : (old new : List ℕ) (f : ℕ) → SameBack old new f 0
-back_none old new f =
-    let a : length old - 0 ≡ length old = omega arith in
-    let b : length new - 0 ≡ length new = omega arith in
-    record { in_old = omega arith; in_new = omega arith; same = rw (a, b, drop-length old, drop-length new) }
+pub front_of : (old new : List ℕ) (f : ℕ) → f ≡ alike old new → SameFront old new f
+front_of old new f q = rw q (front_is old new)
 
--- the last i + 1: the one before the last i, and these
-back_one : (l : List ℕ) (i : ℕ) → i < length l → drop (length l - (i + 1)) l ≡ get_or l (length l - 1 - i) 0 ∷ drop (length l - i) l
-back_one l i h =
-    let a : length l - (i + 1) ≡ length l - 1 - i = omega arith in
-    let b : suc (length l - 1 - i) ≡ length l - i = omega arith in
-    rw a (drop-cons l (length l - 1 - i) 0 (omega arith) ∙ ap (λ (j : ℕ). get_or l (length l - 1 - i) 0 ∷ drop j l) b)
+-- the last r, from the back
+last_few : (r : ℕ) (l : List ℕ) → r ≤ length l → reverse (take r (reverse l)) ≡ drop (length l - r) l
+last_few r l h =
+    let n : ℕ = length l - r in
+    let k : length (reverse (drop n l)) ≡ r = length-reverse (drop n l) ∙ length-drop n l ∙ omega arith in
+    ap (λ (x : List ℕ). reverse (take r (reverse x))) (sym (take-append-drop n l))
+    ∙ rw (reverse-append (take n l) (drop n l), take_at (reverse (drop n l)) (reverse (take n l)) r k, reverse-reverse (drop n l))
 
-pub back_on : {old new : List ℕ} {f i : ℕ} → SameBack old new f i → get_or old (length old - 1 - i) 0 ≡ get_or new (length new - 1 - i) 0
-    → i < length old - f → i < length new - f → SameBack old new f (i + 1)
-back_on {old} {new} {f} {i} s q h k = record {
-  in_old = omega arith;
-  in_new = omega arith;
-  same = rw (back_one old i (omega arith), back_one new i (omega arith), q, s.same);
-}
+back_is : (old new : List ℕ) (f : ℕ) → f ≤ length old → f ≤ length new
+    → SameBack old new f (alike (reverse (drop f old)) (reverse (drop f new)))
+back_is old new f h k =
+    let s = front_is (reverse (drop f old)) (reverse (drop f new)) in
+    let r : ℕ = alike (reverse (drop f old)) (reverse (drop f new)) in
+    let a : r ≤ length old - f = (let z = s.in_old in omega (arith, length-reverse (drop f old), length-drop f old)) in
+    let b : r ≤ length new - f = (let z = s.in_new in omega (arith, length-reverse (drop f new), length-drop f new)) in
+    record { in_old = a; in_new = b; same = sym (end old h a) ∙ ap reverse s.same ∙ end new k b }
+  where
+    end : {r : ℕ} (l : List ℕ) → f ≤ length l → r ≤ length l - f → reverse (take r (reverse (drop f l))) ≡ drop (length l - r) l
+    end {r} l h a =
+        let e : f + (length (drop f l) - r) ≡ length l - r = omega (arith, length-drop f l) in
+        last_few r (drop f l) (omega (arith, length-drop f l)) ∙ drop-drop (length (drop f l) - r) f l ∙ ap (λ (n : ℕ). drop n l) e
 
-pub ruleset commons = (rules, front_none, front_on, back_none, back_on)
+pub back_of : (old new : List ℕ) (f b : ℕ) → f ≤ length old → f ≤ length new
+    → b ≡ alike (reverse (take (length old - f) (drop f old))) (reverse (take (length new - f) (drop f new))) → SameBack old new f b
+back_of old new f b h k q = rw (q, take_rest old f, take_rest new f) (back_is old new f h k)
 
 -- ── the middle ──
 

@@ -1,30 +1,32 @@
 -- `place_of`, `insert_at` and `seat_in`: where a number stands first, and how another one joins it there. Assumes nothing.
-use Rattle.std.proofs.Common.{◌≡◌, ℕ, suc, ◌+◌, ◌<◌, ◌≤◌, Bool, true, false, cond, eqb, List, [], ◌∷◌, ◌++◌, length, get_or, take, drop, sym, refl, ap, ◌∙◌, add-one, arith, length-take-le, take-suc, rules, eq-eqb, ne_eqb}
+use Rattle.std.proofs.Common.{◌≡◌, ℕ, suc, ◌+◌, ◌<◌, ◌≤◌, Bool, true, false, cond, eqb, List, [], ◌∷◌, ◌++◌, length, get_or, take, drop, sym, refl, ap, ◌∙◌, ◌==◌, not, ltb, Option, unwrap_or, position, ltb-false, add-one, arith, length-take-le, take-suc, rules, eq-eqb, ne_eqb}
+use Rattle.std.specs.List.{position_or_len}
+use Rattle.std.proofs.lemmas.List.Sums.{prefix_len-le-length}
+use Rattle.rules.proofs.Ranges.{pass, fail, test}
 use Rattle.words.specs.Words.{insert_at}
 use Rattle.routes.specs.Differs.{place_of, seat}
-use Rattle.words.proofs.Rows.{row_cons, row_none}
 
 -- ── the first place ──
 
--- i are passed: the rest decides
-pub record Seeking (a : List ℕ) (x i : ℕ) : Type 0 where
-  pub rest : place_of x a ≡ i + place_of x (drop i a)
+first_is : (x : ℕ) (l : List ℕ) → position_or_len (λ z. z == x) l ≡ place_of x l
+unfolding place_of
+first_is x [] = refl
+first_is x (y ∷ l) = let h = first_is x l in elim (test (eqb y x)) [ pass z ↦ rw z | fail z ↦ rw z (omega arith) ]
 
-pub seek_none : (a : List ℕ) (x : ℕ) → Seeking a x 0
-seek_none a x = record { rest = omega arith }
+-- what a search finds, or the length
+place_is : (x k : ℕ) (l : List ℕ) → length l ≡ k → unwrap_or (position (λ z. z == x) l) k ≡ place_of x l
+place_is x k l e = rw (sym e) (
+    let n : ℕ = position_or_len (λ z. z == x) l in
+    let h : n ≤ length l = prefix_len-le-length (λ z. not (z == x)) l in
+    elim (test (ltb n (length l))) [
+      | pass z ↦ rw z (first_is x l)
+      | fail z ↦ let k = ltb-false n (length l) z in rw z (omega (arith, first_is x l))
+    ])
 
-module _ {a : List ℕ} {x i : ℕ} (k : Seeking a x i) where
-  pub seek_hit : get_or a i 0 ≡ x → i < length a → i ≡ place_of x a
-  unfolding place_of
-  seek_hit q h = sym (k.rest ∙ rw (row_cons a i h, eq-eqb (get_or a i 0) x q) (omega arith))
-
-  pub seek_on : (get_or a i 0 ≡ x → ⊥) → i < length a → Seeking a x (i + 1)
-  unfolding place_of
-  seek_on q h = record { rest = k.rest ∙ rw (row_cons a i h, ne_eqb (get_or a i 0) x q) (omega arith) }
-
-  pub seek_end : length a ≤ i → i ≡ place_of x a
-  unfolding place_of
-  seek_end h = sym (k.rest ∙ rw (row_none a i h) (omega arith))
+place_few : (x : ℕ) (l : List ℕ) → place_of x l ≤ length l
+unfolding place_of
+place_few x [] = omega arith
+place_few x (y ∷ l) = let h = place_few x l in elim (test (eqb y x)) [ pass z ↦ rw z (omega arith) | fail z ↦ rw z (omega arith) ]
 
 -- ── a seat there ──
 
@@ -52,11 +54,20 @@ insert_seat x y (z ∷ l) = go (eqb z x) (insert_seat x y l)
     go true e = ap (λ (r : List ℕ). x ∷ r) (shift z l)
     go false e = ap (λ (r : List ℕ). z ∷ r) e
 
-pub seat_in_front : (n p : ℕ) (a : List ℕ) → p ≤ length (take n a) → n < length a → p < length (take (n + 1) a)
-seat_in_front n p a q h = let b = length-take-le n a (omega arith) in let c = length-take-le (n + 1) a (omega arith) in omega arith
+-- the place among the first n
+module _ (x n : ℕ) (a : List ℕ) (h : n < length a) {p : ℕ} {o : Option ℕ} (e : p ≡ unwrap_or o n)
+    (q : o ≡ position (λ z. z == x) (take n a)) where
+  placed : p ≡ place_of x (take n a)
+  placed =
+      e ∙ ap (λ (z : Option ℕ). unwrap_or z n) q ∙ place_is x n (take n a) (length-take-le n a (omega arith))
 
-pub seated : (x n p : ℕ) (a b : List ℕ) → b ≡ insert_at p x (take (n + 1) a) → p ≡ place_of x (take n a) → n < length a
-    → b ++ drop (n + 1) a ≡ seat x (take n a) ++ drop (n + 1) a
-seated x n p a b e q h = rw (e, q, add-one n, take-suc a n 0 h, insert_seat)
+  pub seat_in_front : p < length (take (n + 1) a)
+  seat_in_front =
+      let k = place_few x (take n a) in
+      let i = placed in
+      omega (arith, length-take-le n a (omega arith), length-take-le (n + 1) a (omega arith))
 
-pub ruleset seating = (rules, seek_none, seek_hit, seek_on, seek_end, seat_in_front, seated)
+  pub seated : (b : List ℕ) → b ≡ insert_at p x (take (n + 1) a) → b ++ drop (n + 1) a ≡ seat x (take n a) ++ drop (n + 1) a
+  seated b i = rw (i, placed, add-one n, take-suc a n 0 h, insert_seat)
+
+pub ruleset seating = (rules, seat_in_front, seated)

@@ -1,10 +1,11 @@
 -- `splice`: three copies put an owner's new stops in the place of the old. Assumes nothing.
-use Rattle.std.proofs.Common.{◌≡◌, ℕ, zero, suc, ◌+◌, ◌-◌, ◌%◌, ◌≤◌, List, [], ◌++◌, length, take, drop, replicate, refl, ap, ◌∙◌, append_assoc, append-nil, zero-add, arith, length-append, length-take-le, take_at, rules}
-use lib.ListN.{length-replicate}
-use lib.Seq.{sets, sets-eq, slice, length-slice, length-sets, take-length}
+use Rattle.std.proofs.Common.{◌≡◌, ℕ, zero, suc, ◌+◌, ◌-◌, ◌%◌, ◌≤◌, List, [], ◌++◌, length, take, drop, replicate, refl, ap, ◌∙◌, append_assoc, append-nil, zero-add, arith, length-append, length-take-le, length-drop, take_at, drop_at, rules}
+use lib.Seq.{slice, length-slice}
 use Rattle.rules.specs.Sizes.{most_entries}
 use Rattle.edges.specs.Rows.{pad}
 use Rattle.routes.specs.Raw.{splice, shift_of}
+use Rattle.edges.specs.Raw.{put}
+use Rattle.edges.proofs.Listing.{between}
 use Rattle.words.proofs.Rows.{row_none}
 
 drop_replicate : (i n a : ℕ) → drop i (replicate n a) ≡ replicate (n - i) a
@@ -12,31 +13,36 @@ drop_replicate zero n a = let e : n ≡ n - 0 = omega arith in ap (λ (k : ℕ).
 drop_replicate (suc i) zero a = let e : 0 ≡ 0 - suc i = omega arith in ap (λ (k : ℕ). replicate k a) e
 drop_replicate (suc i) (suc n) a = let e : n - i ≡ suc n - suc i = omega arith in drop_replicate i n a ∙ ap (λ (k : ℕ). replicate k a) e
 
--- what is written over the front of n zeros
-pub over_zeros : (n : ℕ) (y : List ℕ) → length y ≤ n → sets (replicate n 0) 0 y ≡ pad n y
-unfolding pad
-over_zeros n y h = sets-eq y (replicate n 0) 0 (rw (zero-add, length-replicate) h) ∙ rw (zero-add, drop_replicate)
+-- three copies: what is moved, over the front of zeros; the new stops; and what was moved, behind them
+pub spliced : (a s : List ℕ) (f t n : ℕ) {y₁ y₂ y₃ : List ℕ} → y₁ ≡ take (n - t) (drop t a) → y₂ ≡ s
+    → y₃ ≡ take (most_entries - (f + length s)) (y₁ ++ drop (n - t) (replicate most_entries 0))
+    → length a ≡ most_entries → f + length s ≤ most_entries → t ≤ n → n ≤ most_entries
+    → put (f + length s) (length (put f (f + length s - f) a y₂) - (f + length s)) (put f (f + length s - f) a y₂) y₃ ≡ splice f t n s a
+unfolding splice pad
+spliced a s f t n e₁ e₂ e₃ l hk ht hn =
+    let w : length (slice t n a) ≡ n - t = length-slice t n a (omega arith) in
+    let r : List ℕ = drop (f + length s - f) (drop f a) in
+    let x : length (take f a ++ s) ≡ f + length s = (let c = length-take-le f a (omega arith) in length-append (take f a) s ∙ omega arith) in
+    let y : length r ≡ length a - (f + length s) = length-drop (f + length s - f) (drop f a) ∙ (let c = length-drop f a in omega arith) in
+    let z : length (take f a ++ (s ++ r)) ≡ f + length s + length r = rw (← append_assoc) (length-append (take f a ++ s) r ∙ omega arith) in
+    rw (
+      e₃,
+      e₁,
+      e₂,
+      between t n a ht,
+      drop_replicate (n - t) most_entries 0,
+      w,
+      z,
+      ← append_assoc (take f a) s r,
+      take_at (take f a ++ s) r (f + length s) x,
+      drop_at (take f a ++ s) r (f + length s) x,
+      row_none r (f + length s + length r - (f + length s)) (omega arith),
+      append-nil,
+    )
+    (append_assoc (take f a) s _)
 
-pub spliced : (a a₁ a₂ rest s : List ℕ) (f t n : ℕ) → a₂ ≡ sets a₁ (f + length s) (slice 0 (0 + (most_entries - (f + length s))) rest)
-    → a₁ ≡ sets a f (slice 0 (0 + length s) s) → rest ≡ sets (replicate most_entries 0) 0 (slice t (t + (n - t)) a)
-    → length a ≡ most_entries → f + length s ≤ most_entries → t ≤ n → n ≤ most_entries → a₂ ≡ splice f t n s a
-unfolding splice
-spliced a a₁ a₂ rest s f t n e₂ e₁ e l hk ht hn =
-    let z : t + (n - t) ≡ n = omega arith in
-    let y = length-slice t n a (omega arith) in
-    let r : rest ≡ pad most_entries (slice t n a) = e ∙ rw z (over_zeros most_entries (slice t n a) (omega arith)) in
-    let p : a₁ ≡ take f a ++ s ++ drop (f + length s) a = e₁ ∙ rw (zero-add, take-length) (sets-eq s a f (omega arith)) in
-    let x : List ℕ = take (most_entries - (f + length s)) rest in
-    let m : length x ≡ most_entries - (f + length s) = length-take-le (most_entries - (f + length s)) rest (rw (e, length-sets, length-replicate) (omega arith)) in
-    let l₁ : length a₁ ≡ most_entries = ap length e₁ ∙ length-sets a f (slice 0 (0 + length s) s) ∙ l in
-    let q : length (take f a ++ s) ≡ f + length s = (let c = length-take-le f a (omega arith) in length-append (take f a) s ∙ omega arith) in
-    let w : a₂ ≡ take (f + length s) a₁ ++ x ++ drop (f + length s + length x) a₁ = e₂ ∙ rw zero-add (sets-eq x a₁ (f + length s) (omega arith)) in
-    let v : drop (f + length s + length x) a₁ ≡ [] = row_none a₁ (f + length s + length x) (omega arith) in
-    let u : take (f + length s) a₁ ≡ take f a ++ s = ap (take (f + length s)) p ∙ take_at (take f a ++ s) (drop (f + length s) a) (f + length s) q in
-    w ∙ rw (v, append-nil, u, append_assoc, r)
-
-pub shift_is : (out new : ℕ) → (65536 + new - out) % 65536 ≡ shift_of out new
+pub shift_is : (out new : ℕ) → out ≤ 65536 → (new + (65536 - out)) % 65536 ≡ shift_of out new
 unfolding shift_of
-shift_is out new = refl
+shift_is out new h = ap (λ (n : ℕ). n % 65536) (omega arith)
 
 pub ruleset splicing = (rules, spliced, shift_is)

@@ -128,5 +128,3 @@ module _ {old new : List ℕ} {f b : ℕ} (front : SameFront old new f) (back : 
       came_listed = p.came_listed;
     };
   }
-
-pub ruleset linking_up = (rules, links_done)

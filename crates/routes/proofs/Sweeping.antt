@@ -25,11 +25,11 @@ never_ok q = err_never refl q
 -- ── one ──
 
 -- whatever the model, x turns (t) or does not
-abbrev Known : Bool → ℕ → List ℕ → List ℕ → Bool → Type 0
+abbrev pub Known : Bool → ℕ → List ℕ → List ℕ → Bool → Type 0
 Known b x e e' t = (m : Model) → Holds e m → Ready b m x → (turns b m x ≡ t) × Holds e' (turn_one b m x)
 
 module _ {b : Bool} {x : ℕ} {e e' heads : List ℕ} {h : ℕ} where
-  one_still : Known b x e e' false → Turns b (x ∷ []) e e' heads heads h (Ok h)
+  pub one_still : Known b x e e' false → Turns b (x ∷ []) e e' heads heads h (Ok h)
   unfolding turn_all heads_all ReadyAll
   one_still k = record {
     short = λ i q. omega (arith, ok_same q);
@@ -40,16 +40,16 @@ module _ {b : Bool} {x : ℕ} {e e' heads : List ℕ} {h : ℕ} where
     };
   }
 
-  one_turned : Known b x e e' true → h < length heads → Turns b (x ∷ []) e e' heads (set heads h (head x)) h (Ok (h + 1))
+  pub one_turned : Known b x e e' true → h < length heads → Turns b (x ∷ []) e e' heads (set heads h (head x)) h (Ok (h + 1))
   unfolding turn_all heads_all ReadyAll
   one_turned k l = record {
     short = λ i q. omega (arith, ok_same q);
     is = λ m H R. let (t, J) = k m H R.0 in record { upto = rw t; holds = J; listed = rw (t, add-one) (take-suc-set heads h (head x) l) };
   }
 
-  one_never : {z : Senseless} → ((m : Model) → Holds e m → Ready b m x → ⊥) → Turns b (x ∷ []) e e' heads heads h (Err z)
+  one_never : {r : Result ℕ Senseless} → IsErr r → ((m : Model) → Holds e m → Ready b m x → ⊥) → Turns b (x ∷ []) e e' heads heads h r
   unfolding ReadyAll
-  one_never k = record { short = λ i q. never_ok q; is = λ m H R. absurd (k m H R.0) }
+  one_never j k = record { short = λ i q. err_never j q; is = λ m H R. absurd (k m H R.0) }
 
 -- ── what the edges answer ──
 
@@ -57,89 +57,82 @@ far : (b : Bool) (x : ℕ) (e : List ℕ) → most_jobs ≤ x / most_jobs → Kn
 far true x e k m H R = (rw (le-ltb (x / most_jobs) most_jobs k), rw (le-ltb (x / most_jobs) most_jobs k) H)
 far false x e k m H R = (rw (le-ltb (x / most_jobs) most_jobs k), rw (le-ltb (x / most_jobs) most_jobs k) H)
 
--- whether it appeared or vanished, and whether the edges found no sense in their words
-abbrev appeared : Added → Bool
+-- whether it appeared or vanished
+abbrev pub appeared : Added → Bool
 appeared added.Appeared = true
 appeared added.Counted = false
-appeared added.Bad = false
 
-abbrev unadded : Added → Bool
-unadded added.Appeared = false
-unadded added.Counted = false
-unadded added.Bad = true
-
-abbrev vanished : Removed → Bool
+abbrev pub vanished : Removed → Bool
 vanished removed.Vanished = true
 vanished removed.Lessened = false
 vanished removed.Absent = false
-vanished removed.Bad = false
 
-abbrev unremoved : Removed → Bool
-unremoved removed.Vanished = false
-unremoved removed.Lessened = false
-unremoved removed.Absent = false
-unremoved removed.Bad = true
+add_tells : (b : Bool) → not b ≡ appeared (cond b added.Counted added.Appeared)
+add_tells true = refl
+add_tells false = refl
 
-add_tells : (b : Bool) → (not b ≡ appeared (cond b added.Counted added.Appeared)) × (unadded (cond b added.Counted added.Appeared) ≡ false)
-add_tells true = (refl, refl)
-add_tells false = (refl, refl)
-
-remove_tells : (b c : Bool) → (b && not c ≡ vanished (cond b (cond c removed.Lessened removed.Vanished) removed.Absent))
-    × (unremoved (cond b (cond c removed.Lessened removed.Vanished) removed.Absent) ≡ false)
-remove_tells true true = (refl, refl)
-remove_tells true false = (refl, refl)
-remove_tells false c = (refl, refl)
+remove_tells : (b c : Bool) → b && not c ≡ vanished (cond b (cond c removed.Lessened removed.Vanished) removed.Absent)
+remove_tells true true = refl
+remove_tells true false = refl
+remove_tells false c = refl
 
 module _ (x : ℕ) {e e' : List ℕ} (near : x / most_jobs < most_jobs) where
-  put_one : {a : Added} → Adds e (x / most_jobs) (x % most_jobs) e' a
-      → (m : Model) → Holds e m → Ready true m x → (turns true m x ≡ appeared a) × Holds e' (turn_one true m x) × (unadded a ≡ false)
+  put_one : {r : Result Added Senseless} {a : Added} → Adds e (x / most_jobs) (x % most_jobs) e' r → r ≡ Ok a → Known true x e e' (appeared a)
   unfolding add_answer
-  put_one A m H R =
-      let n = lt-ltb (x / most_jobs) most_jobs near in
-      let (q, J) = A m H (R n) in
-      (rw (n, q) (add_tells (has_edge m (x / most_jobs) (x % most_jobs))).0, rw n J, rw q (add_tells (has_edge m (x / most_jobs) (x % most_jobs))).1)
+  put_one A z m H R =
+      let (q, J) = A m H (R (lt-ltb (x / most_jobs) most_jobs near)) in
+      (rw (lt-ltb (x / most_jobs) most_jobs near) (add_tells (has_edge m (x / most_jobs) (x % most_jobs)) ∙ ap appeared (ok_same (sym q ∙ z))), rw (lt-ltb (x / most_jobs) most_jobs near) J)
 
-  take_one : {a : Removed} → Removes e (x / most_jobs) (x % most_jobs) e' a
-      → (m : Model) → Holds e m → Ready false m x → (turns false m x ≡ vanished a) × Holds e' (turn_one false m x) × (unremoved a ≡ false)
+  put_none : {r : Result Added Senseless} {z : Senseless} → Adds e (x / most_jobs) (x % most_jobs) e' r → r ≡ Err z
+      → (m : Model) → Holds e m → Ready true m x → ⊥
+  put_none A z m H R = never_ok (sym z ∙ (A m H (R (lt-ltb (x / most_jobs) most_jobs near))).0)
+
+  take_one : {r : Result Removed Senseless} {a : Removed} → Removes e (x / most_jobs) (x % most_jobs) e' r → r ≡ Ok a
+      → Known false x e e' (vanished a)
   unfolding remove_answer
-  take_one A m H R =
-      let n = lt-ltb (x / most_jobs) most_jobs near in
+  take_one A z m H R =
       let (q, J) = A m H in
       let b = remove_tells (has_edge m (x / most_jobs) (x % most_jobs)) (ltb 1 (count_of m (x / most_jobs) (x % most_jobs))) in
-      (rw (n, q) b.0, rw n J, rw q b.1)
+      (rw (lt-ltb (x / most_jobs) most_jobs near) (b ∙ ap vanished (ok_same (sym q ∙ z))), rw (lt-ltb (x / most_jobs) most_jobs near) J)
+
+  take_none : {r : Result Removed Senseless} {z : Senseless} → Removes e (x / most_jobs) (x % most_jobs) e' r → r ≡ Err z
+      → (m : Model) → Holds e m → Ready false m x → ⊥
+  take_none A z m H R = never_ok (sym z ∙ (A m H).0)
 
 module _ {b : Bool} {x : ℕ} {e : List ℕ} where
   pub turn_far : {heads : List ℕ} {h : ℕ} → most_jobs ≤ x / most_jobs → Turns b (x ∷ []) e e heads heads h (Ok h)
   turn_far k = one_still (far b x e k)
 
-  module _ {e' heads : List ℕ} {h : ℕ} (near : x / most_jobs < most_jobs) where
-    module _ {a : Added} (A : Adds e (x / most_jobs) (x % most_jobs) e' a) (more : b ≡ true) where
-      pub turn_counted : a ≡ added.Counted → Turns b (x ∷ []) e e' heads heads h (Ok h)
-      turn_counted q = rw more (one_still (λ m H R. let k = put_one x near A m H R in (k.0 ∙ ap appeared q, k.1)))
+-- it turned if it appeared, or vanished
+module _ {b : Bool} (x : ℕ) {e e' : List ℕ} (near : x / most_jobs < most_jobs) {t : Bool} where
+  pub turn_added : {r : Result Added Senseless} {a : Added} → Adds e (x / most_jobs) (x % most_jobs) e' r → b ≡ true → r ≡ Ok a
+      → appeared a ≡ t → Known b x e e' t
+  turn_added A more z q = rw (more, ← q) (put_one x near A z)
 
-      pub turn_appeared : a ≡ added.Appeared → h < length heads → Turns b (x ∷ []) e e' heads (set heads h (x % most_jobs)) h (Ok (h + 1))
-      turn_appeared q l = rw more (one_turned (λ m H R. let k = put_one x near A m H R in (k.0 ∙ ap appeared q, k.1)) l)
+  pub turn_removed : {r : Result Removed Senseless} {a : Removed} → Removes e (x / most_jobs) (x % most_jobs) e' r → b ≡ false → r ≡ Ok a
+      → vanished a ≡ t → Known b x e e' t
+  turn_removed A less z q = rw (less, ← q) (take_one x near A z)
 
-      pub turn_unadded : {z : Senseless} → a ≡ added.Bad → Turns b (x ∷ []) e e' heads heads h (Err z)
-      turn_unadded q = rw more (one_never (λ m H R. clash (ap unadded q) (put_one x near A m H R).2))
+pub not_appeared : (a : Added) → (a ≡ added.Appeared → ⊥) → appeared a ≡ false
+not_appeared added.Appeared n = absurd (n refl)
+not_appeared added.Counted n = refl
 
-    module _ {a : Removed} (A : Removes e (x / most_jobs) (x % most_jobs) e' a) (less : b ≡ false) where
-      still : vanished a ≡ false → Turns b (x ∷ []) e e' heads heads h (Ok h)
-      still q = rw less (one_still (λ m H R. let k = take_one x near A m H R in (k.0 ∙ q, k.1)))
+pub not_vanished : (a : Removed) → (a ≡ removed.Vanished → ⊥) → vanished a ≡ false
+not_vanished removed.Vanished n = absurd (n refl)
+not_vanished removed.Lessened n = refl
+not_vanished removed.Absent n = refl
 
-      pub turn_lessened : a ≡ removed.Lessened → Turns b (x ∷ []) e e' heads heads h (Ok h)
-      turn_lessened q = still (ap vanished q)
+module _ {b : Bool} {x : ℕ} {e e' : List ℕ} (near : x / most_jobs < most_jobs) where
+  module _ {heads : List ℕ} {h : ℕ} where
+    pub turn_unadded : {r : Result Added Senseless} {z : Senseless} (r' : Result ℕ Senseless) → Adds e (x / most_jobs) (x % most_jobs) e' r
+        → b ≡ true → r ≡ Err z → IsErr r' → Turns b (x ∷ []) e e' heads heads h r'
+    turn_unadded r' A more z k = rw more (one_never k (put_none x near A z))
 
-      pub turn_absent : a ≡ removed.Absent → Turns b (x ∷ []) e e' heads heads h (Ok h)
-      turn_absent q = still (ap vanished q)
+    pub turn_unremoved : {r : Result Removed Senseless} {z : Senseless} (r' : Result ℕ Senseless) → Removes e (x / most_jobs) (x % most_jobs) e' r
+        → b ≡ false → r ≡ Err z → IsErr r' → Turns b (x ∷ []) e e' heads heads h r'
+    turn_unremoved r' A less z k = rw less (one_never k (take_none x near A z))
 
-      pub turn_vanished : a ≡ removed.Vanished → h < length heads → Turns b (x ∷ []) e e' heads (set heads h (x % most_jobs)) h (Ok (h + 1))
-      turn_vanished q l = rw less (one_turned (λ m H R. let k = take_one x near A m H R in (k.0 ∙ ap vanished q, k.1)) l)
-
-      pub turn_unremoved : {z : Senseless} → a ≡ removed.Bad → Turns b (x ∷ []) e e' heads heads h (Err z)
-      turn_unremoved q = rw less (one_never (λ m H R. clash (ap unremoved q) (take_one x near A m H R).2))
-
-pub ruleset turning = (rules, turn_far, turn_counted, turn_appeared, turn_unadded, turn_lessened, turn_absent, turn_vanished, turn_unremoved)
+pub ruleset turning = (rules, turn_far)
 
 -- ── all of a list ──
 

@@ -1,33 +1,25 @@
 -- How often each job is in force: one stop, and the loops over stops of `unassign` and `assign`. Assumes nothing.
-use Rattle.std.proofs.Common.{◌≡◌, ℕ, ◌+◌, ◌-◌, ◌/◌, ◌<◌, ◌≤◌, Bool, true, false, List, [], ◌∷◌, map, length, get_or, drop, set, sym, refl, ◌∙◌, ⊎_elim, add-one, arith, length-set, get_or-set_other, get_or-set_same, rules, eq-eqb, ne_eqb}
-use lib.Seq.{slice-cons, slice_empty, set_out}
+use Rattle.std.proofs.Common.{◌≡◌, ℕ, ◌^◌, min, ◌+◌, ◌-◌, ◌/◌, ◌<◌, ◌≤◌, Bool, true, false, List, [], ◌∷◌, map, length, get_or, take, drop, ◌++◌, set, sym, refl, ◌∙◌, ⊎_elim, arith, length-set, get_or-set_other, get_or-set_same, eq-eqb, ne_eqb}
+use lib.Seq.{set_out}
 use Rattle.rules.specs.Sizes.{most_jobs, most_entries, routes_length}
 use Rattle.rules.specs.Scores.{times_in}
 use Rattle.rules.specs.Routes.{Stop}
 use Rattle.rules.proofs.Ranges.{same}
-use Rattle.edges.specs.Raw.{mid, put}
 use Rattle.routes.specs.Stops.{word, words}
 use Rattle.routes.specs.Store.{stops_at, assigned_at}
 use Rattle.routes.specs.Counting.{stepped, count_one, count_all, stops_in, recount_in}
 use Rattle.words.proofs.Rows.{row_cons, row_none}
 use Rattle.routes.proofs.Lists.{bit_one, bit_none}
 use Rattle.routes.proofs.Codes.{half}
-use Rattle.routes.proofs.Windows.{mid_long, mid_put, put_put, put_mid, mid_below, mid_at}
+use Rattle.routes.proofs.Windows.{mid_before, part_is}
 
 -- ── one stop ──
 
-module _ (b : Bool) (c : ℕ) where
-  pub step_up : b ≡ true → c < 65535 → c + 1 ≡ stepped b c
-  step_up q h = rw q (omega arith)
+pub step_up : (b : Bool) (c : ℕ) → b ≡ true → min (c + 1) (2 ^ 16 - 1) ≡ stepped b c
+step_up b c q = rw q (omega arith)
 
-  pub step_full : b ≡ true → 65535 ≤ c → 65535 ≡ stepped b c
-  step_full q h = rw q (omega arith)
-
-  pub step_down : b ≡ false → c - 1 ≡ stepped b c
-  step_down q = rw q
-
-  pub step_empty : b ≡ false → c ≤ 0 → 0 ≡ stepped b c
-  step_empty q h = rw q (omega arith)
+pub step_down : (b : Bool) (c : ℕ) → b ≡ false → c - 1 ≡ stepped b c
+step_down b c q = rw q (omega arith)
 
 module _ (b : Bool) (a : List ℕ) (w j : ℕ) (e : j ≡ w / 2) where
   pub count_out : length a ≡ most_jobs → most_jobs ≤ j → a ≡ count_one b a w
@@ -35,8 +27,6 @@ module _ (b : Bool) (a : List ℕ) (w j : ℕ) (e : j ≡ w / 2) where
 
   pub count_in : (c : ℕ) → c ≡ stepped b (get_or a j 0) → set a j c ≡ count_one b a w
   count_in c q = rw (q, e)
-
-pub ruleset counting = (rules, step_up, step_full, step_down, step_empty, count_out, count_in)
 
 -- ── stop after stop ──
 
@@ -46,57 +36,31 @@ count_long b a [] = refl
 count_long b a (w ∷ l) = count_long b (count_one b a w) l ∙ simp length-set
 
 -- once the rest of the stops is counted, all are
-pub record Assigning (a₀ s a : List ℕ) (i : ℕ) : Type 0 where
-  pub rest : count_all true a (drop i s) ≡ count_all true a₀ s
+pub record Recounting (b : Bool) (a₀ s a : List ℕ) (i : ℕ) : Type 0 where
+  pub rest : count_all b a (drop i s) ≡ count_all b a₀ s
 
-pub assign_none : (a s : List ℕ) → Assigning a s a 0
-assign_none a s = record { rest = refl }
+pub recount_none : (b : Bool) (a s : List ℕ) → Recounting b a s a 0
+recount_none b a s = record { rest = refl }
 
-module _ {a₀ s a : List ℕ} {i : ℕ} (k : Assigning a₀ s a i) where
-  pub assign_on : {a₁ : List ℕ} → a₁ ≡ count_one true a (get_or s i 0) → i < length s → Assigning a₀ s a₁ (i + 1)
+module _ {b : Bool} {a₀ s a : List ℕ} {i : ℕ} (k : Recounting b a₀ s a i) where
+  pub recount_on : {a₁ : List ℕ} → a₁ ≡ count_one b a (get_or s i 0) → i < length s → Recounting b a₀ s a₁ (i + 1)
   unfolding count_all
-  assign_on e h = record { rest = rw e (sym (rw (row_cons s i h)) ∙ k.rest) }
+  recount_on e h = record { rest = rw e (sym (rw (row_cons s i h)) ∙ k.rest) }
 
-  pub assign_done : length s ≤ i → a ≡ count_all true a₀ s
+  pub recount_done : length s ≤ i → a ≡ count_all b a₀ s
   unfolding count_all
-  assign_done h = sym (rw (row_none s i h)) ∙ k.rest
+  recount_done h = sym (rw (row_none s i h)) ∙ k.rest
 
-pub ruleset assigning = (rules, assign_none, assign_on, assign_done)
+-- the stops from f up to t of the words before the counts
+pub unassigned : (f t : ℕ) (r : List ℕ) {x y u : List ℕ} → length r ≡ routes_length → (f ≤ t) × (t ≤ most_entries) → x ≡ take assigned_at r
+    → y ≡ drop assigned_at r → u ≡ count_all false (take most_jobs y) (take (stops_at + t - (stops_at + f)) (drop (stops_at + f) x))
+    → x ++ (u ++ drop most_jobs y) ≡ recount_in false (stops_in r f t) r
+unfolding recount_in
+unassigned f t r l h p q e =
+    let s = part_is stops_at most_entries f t (take assigned_at r) h.0 h.1 in
+    rw (e, p, q, s, mid_before assigned_at r (omega arith) stops_at most_entries (omega arith))
 
--- ── stops of the words ──
-
-pub record Unassigning (r₀ : List ℕ) (f t : ℕ) (r : List ℕ) (i : ℕ) : Type 0 where
-  pub rest : recount_in false (stops_in r i t) r ≡ recount_in false (stops_in r₀ f t) r₀
-
-pub unassign_none : (r : List ℕ) (f t : ℕ) → Unassigning r f t r f
-unassign_none r f t = record { rest = refl }
-
-module _ {r₀ : List ℕ} {f t : ℕ} {r : List ℕ} {i : ℕ} (k : Unassigning r₀ f t r i) (l : length r ≡ routes_length) (few : t ≤ most_entries) where
-  pub unassign_on : {y : List ℕ} → y ≡ count_one false (mid assigned_at most_jobs r) (get_or r (stops_at + i) 0) → i < t
-      → Unassigning r₀ f t (put assigned_at most_jobs r y) (i + 1)
-  unfolding recount_in count_all
-  unassign_on {y} e h =
-      let m : length (mid stops_at most_entries r) ≡ most_entries = mid_long stops_at most_entries r (omega arith) in
-      let n : length y ≡ most_jobs = rw (e, length-set) (mid_long assigned_at most_jobs r (omega arith)) in
-      record {
-        rest = rw (
-          mid_put assigned_at most_jobs r (omega arith) y n,
-          put_put assigned_at most_jobs r (omega arith) y n,
-          mid_below assigned_at most_jobs r (omega arith) stops_at most_entries y (omega arith),
-          e,
-          ← mid_at stops_at most_entries r i (omega arith),
-          add-one i,
-        )
-            (sym (rw (slice-cons i t (mid stops_at most_entries r) 0 h (omega arith))) ∙ k.rest);
-      }
-
-  pub unassign_done : t ≤ i → i ≤ t → r ≡ recount_in false (stops_in r₀ f t) r₀
-  unfolding recount_in count_all
-  unassign_done h j =
-      let q : t ≡ i = omega arith in
-      sym (rw (q, slice_empty i (mid stops_at most_entries r)) (put_mid assigned_at most_jobs r (omega arith))) ∙ k.rest
-
-pub ruleset unassigning = (rules, unassign_none, unassign_on, unassign_done)
+pub ruleset tallying = (step_up, step_down, count_out, count_in, recount_none, recount_on, recount_done)
 
 -- ── what the stops of a route come to ──
 

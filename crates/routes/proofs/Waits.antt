@@ -1,7 +1,9 @@
 -- The waiting owners: what they give up, who begins to wait, and when nobody does. Assumes nothing.
-use Rattle.std.proofs.Common.{◌≡◌, ℕ, suc, ◌+◌, ◌-◌, ◌*◌, ◌<◌, ◌≤◌, Bool, true, false, List, [], ◌∷◌, ◌++◌, length, get_or, drop, set, replicate, sym, refl, ap, ◌∙◌, ⊎_elim, append_assoc, arith, length-append, drop-drop, rules, eq-eqb, ne_eqb, Result, Ok, Err}
+use Rattle.std.proofs.Common.{◌≡◌, ℕ, ◌||◌, ◌==◌, eqb, eqb-true, suc, ◌+◌, ◌-◌, ◌*◌, ◌<◌, ◌≤◌, Bool, true, false, List, [], ◌∷◌, ◌++◌, length, get_or, drop, set, replicate, sym, refl, ap, ◌∙◌, ⊎_elim, append_assoc, arith, length-append, drop-drop, rules, eq-eqb, ne_eqb, Result, Ok, Err}
 use lib.ListN.{length-map}
 use lib.Seq.{sets, sets-eq, set_at}
+use borrow.Author.Tests.{eqb-false}
+use Rattle.std.specs.List.{list_any}
 use Rattle.rules.specs.Lists.{memb, sum_of}
 use Rattle.rules.specs.Sizes.{most_owners, most_entries, routes_length}
 use Rattle.rules.specs.Routes.{Plan, wait}
@@ -59,23 +61,15 @@ pub ruleset freeing = (rules, given_own, given_row, freed_none, freed_on, freed_
 
 -- ── a search ──
 
-pub record Seeing (row : List ℕ) (x i : ℕ) : Type 0 where
-  pub rest : memb x row ≡ memb x (drop i row)
+eqb_turned : (x y : ℕ) → eqb x y ≡ eqb y x
+eqb_turned x y = elim (test (eqb x y)) [
+  | pass z ↦ z ∙ sym (eq-eqb y x (sym (eqb-true x y z)))
+  | fail z ↦ z ∙ sym (ne_eqb y x (λ q. eqb-false x y z (sym q)))
+]
 
-pub see_none : (row : List ℕ) (x : ℕ) → Seeing row x 0
-see_none row x = record { rest = refl }
-
-module _ {row : List ℕ} {x i : ℕ} (s : Seeing row x i) where
-  pub see_hit : get_or row i 0 ≡ x → i < length row → true ≡ memb x row
-  see_hit q h = sym (s.rest ∙ rw (row_cons row i h, eq-eqb x (get_or row i 0) (sym q)))
-
-  pub see_on : (get_or row i 0 ≡ x → ⊥) → i < length row → Seeing row x (i + 1)
-  see_on q h = record { rest = s.rest ∙ rw (row_cons row i h, ne_eqb x (get_or row i 0) (λ p. q (sym p))) }
-
-  pub see_end : length row ≤ i → false ≡ memb x row
-  see_end h = sym (s.rest ∙ rw (row_none row i h))
-
-pub ruleset seeing = (rules, see_none, see_hit, see_on, see_end)
+memb_any : (x : ℕ) (l : List ℕ) → list_any (λ y. y == x) l ≡ memb x l
+memb_any x [] = refl
+memb_any x (y ∷ l) = rw (memb_any x l) (ap (λ (b : Bool). b || memb x l) (eqb_turned y x))
 
 -- ── an owner begins to wait ──
 
@@ -119,7 +113,10 @@ module _ {l : List ℕ} (o : ℕ) {k : ℕ} (e : k ≡ get_or l waiters_at 0) wh
   pub retract_many : {z : Senseless} → most_owners < k → Retracted l o l (Err z)
   retract_many q p S h low = let (a, b) = count_is p h in absurd (omega arith)
 
-  module _ {row : List ℕ} (b : Bool) (m : b ≡ memb o row) (W : Waiting l row) where
+  module _ {row : List ℕ} (b : Bool) (any : b ≡ list_any (λ y. y == o) row) (W : Waiting l row) where
+    m : b ≡ memb o row
+    m = any ∙ memb_any o row
+
     pub retract_already : b ≡ true → Retracted l o l (Ok tt)
     unfolding wait
     retract_already q p S h low = let z : memb o p.desk.waiting ≡ true = rw (waits_in p h W) at (sym m ∙ q) in (refl, rw z h)

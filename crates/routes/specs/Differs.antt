@@ -1,5 +1,6 @@
 -- Which edges of an old route have no equal one in the new route, and the reverse, one for one. An edge is one number. Assumes nothing.
 use Rattle.std.specs.Prelude.{◌≡◌, ℕ, suc, ◌+◌, ◌-◌, ◌*◌, ◌/◌, ◌%◌, ◌≤◌, Bool, true, false, cond, List, [], ◌∷◌, length, take, drop, ◌==◌, ◌≢◌}
+use Rattle.std.specs.List.{take_while, zip}
 use Rattle.rules.specs.Lists.{memb, keep}
 use Rattle.rules.specs.Sizes.{most_jobs}
 use Rattle.rules.specs.Scores.{times_in}
@@ -12,6 +13,10 @@ codes last (w ∷ l) = cond (w % 2 == 1) ((last * most_jobs + w / 2) ∷ codes (
 pub record Linked (l out' : List ℕ) (r : ℕ) : Type 0 where
   pub few : r ≤ length l
   pub written : take r out' ≡ codes 0 l
+
+-- how many at the front of two lists are the same
+abbrev pub alike : List ℕ → List ℕ → ℕ
+alike old new = length (take_while {X = ℕ × ℕ} (λ p. p.0 == p.1) (zip old new))
 
 -- the first r edges are the same
 pub record SameFront (old new : List ℕ) (r : ℕ) : Type 0 where

@@ -1,10 +1,12 @@
 // Which edges of an old route have no equal one in the new route, and the reverse. An edge is one number: from * JOBS + to.
-ghost use Rattle.std.specs.Prelude.{◌≡◌, ◌+◌, ◌*◌, ◌/◌, ◌<◌, ◌≤◌, ◌++◌, length, take, drop};
+#![tactic(auto)]
+
+ghost use Rattle.std.specs.Prelude.{◌≡◌, ◌+◌, ◌*◌, ◌/◌, ◌<◌, ◌≤◌, ◌++◌, length, take, drop, ◌==◌, reverse, position};
 ghost use Rattle.rules.specs.Sizes.{most_jobs};
-ghost use Rattle.words.specs.Words.{insert_at};
-ghost use Rattle.routes.specs.Differs.{SameFront, SameBack, Linked, Differed, place_of, seat};
+ghost use Rattle.routes.specs.Differs.{Linked, Differed, seat, alike};
 
 use rules::Plan;
+use words::insert_at;
 
 pub const JOBS: u32 = Plan::JOBS as u32;
 
@@ -15,7 +17,7 @@ const STRUCK: u32 = JOBS * JOBS;
 fn job_of(stop: u16) -> u32
     ensures { (result ≡ stop / 2) × (result ≤ 65535) }
 {
-    (stop / 2) as u32
+    u32::from(stop / 2)
 }
 
 fn code(last: u32, job: u32) -> u32
@@ -30,12 +32,9 @@ pub fn links_of(s: &[u16], out: &mut [u32]) -> usize
     requires { length s.now ≤ length out.old }
     ensures { Linked s.now out.new result }
 {
-    let mut n: usize = 0;
-    let mut last: u32 = 0;
-    let mut i: usize = 0;
-    while i < s.len() {
-        let w = s[i];
-        i += 1;
+    let mut n = 0;
+    let mut last = 0;
+    for &w in s {
         let job = job_of(w);
         if w % 2 == 1 {
             out[n] = code(last, job);
@@ -46,31 +45,11 @@ pub fn links_of(s: &[u16], out: &mut [u32]) -> usize
     n
 }
 
-// The first place of x, or the length.
-fn place_of(a: &[u32], x: u32) -> usize
-    ensures { (result ≡ place_of x a.now) × (result ≤ length a.now) }
+// The first place of x.
+fn place_of(a: &[u32], x: u32) -> Option<usize>
+    ensures { result ≡ position (λ y. y == x) a.now }
 {
-    let mut i: usize = 0;
-    while i < a.len() {
-        if a[i] == x {
-            return i;
-        }
-        i += 1;
-    }
-    i
-}
-
-// Puts x at place k. What stood there and after it moves one up, and the last number falls off.
-fn insert_at(a: &mut [u32], k: usize, x: u32)
-    requires { k < length a.old }
-    ensures { a.new ≡ insert_at k x a.old }
-{
-    let mut i = a.len();
-    while k + 1 < i {
-        i = i - 1;
-        a[i] = a[i - 1];
-    }
-    a[k] = x;
+    a.iter().position(|y| *y == x)
 }
 
 // x joins the first n: beside the first that equals it, else at the end.
@@ -78,9 +57,8 @@ fn seat_in(a: &mut [u32], n: usize, x: u32)
     requires { n < length a.old }
     ensures { a.new ≡ seat x (take n a.old) ++ drop (n + 1) a.old }
 {
-    let p = place_of(&a[..n], x);
-    let to = n + 1;
-    insert_at(&mut a[..to], p, x);
+    let p = place_of(&a[..n], x).unwrap_or(n);
+    insert_at(&mut a[..n + 1], p, x);
 }
 
 // Which of the old edges have no equal one among the new ones, into the front of `old`: equals together, each by its first place. The new
@@ -88,18 +66,14 @@ fn seat_in(a: &mut [u32], n: usize, x: u32)
 pub fn differences(old: &mut [u32], new: &mut [u32]) -> usize
     ensures { Differed old.old new.old old.new new.new result }
 {
-    let mut g: usize = 0;
-    let mut i: usize = 0;
-    'old: while i < old.len() {
+    let mut g = 0;
+    'old: for i in 0..old.len() {
         let x = old[i];
-        i += 1;
-        let mut j: usize = 0;
-        while j < new.len() {
-            if new[j] == x {
-                new[j] = STRUCK;
+        for y in new.iter_mut() {
+            if *y == x {
+                *y = STRUCK;
                 continue 'old;
             }
-            j += 1;
         }
         seat_in(old, g, x);
         g += 1;
@@ -109,35 +83,20 @@ pub fn differences(old: &mut [u32], new: &mut [u32]) -> usize
 
 // How many edges at the front are the same.
 pub fn same_front(old: &[u32], new: &[u32]) -> usize
-    ensures { SameFront old.now new.now result }
+    ensures same { result ≡ alike old.now new.now }
+    ensures inside { (result ≤ length old.now) × (result ≤ length new.now) }
 {
-    let mut i: usize = 0;
-    while i < old.len() {
-        if new.len() <= i {
-            return i;
-        }
-        if old[i] != new[i] {
-            return i;
-        }
-        i += 1;
-    }
-    i
+    old.iter().zip(new).take_while(|(x, y)| **x == **y).count()
 }
 
-// How many edges at the back are the same, the first f aside.
-pub fn same_back(old: &[u32], new: &[u32], f: usize) -> usize
-    requires { (f ≤ length old.now) × (f ≤ length new.now) }
-    ensures { SameBack old.now new.now f result }
+// How many edges at the back are the same.
+pub fn same_back(old: &[u32], new: &[u32]) -> usize
+    ensures same { result ≡ alike (reverse old.now) (reverse new.now) }
+    ensures inside { (result ≤ length old.now) × (result ≤ length new.now) }
 {
-    let mut i: usize = 0;
-    while i < old.len() - f {
-        if new.len() - f <= i {
-            return i;
-        }
-        if old[old.len() - 1 - i] != new[new.len() - 1 - i] {
-            return i;
-        }
-        i += 1;
-    }
-    i
+    old.iter()
+        .rev()
+        .zip(new.iter().rev())
+        .take_while(|(x, y)| **x == **y)
+        .count()
 }

@@ -19,25 +19,16 @@ fn turn(e: &mut [u16], x: u32, more: bool, heads: &mut [u16], h: usize) -> Resul
         return Ok(h);
     }
     let to = x % JOBS;
-    if more {
-        return match edges::add(e, Job(from), Job(to)) {
-            Added::Bad => Err(Senseless),
-            Added::Counted => Ok(h),
-            Added::Appeared => {
-                heads[h] = to as u16;
-                Ok(h + 1)
-            }
-        };
+    let turned = if more {
+        matches!(edges::add(e, Job(from), Job(to))?, Added::Appeared)
+    } else {
+        matches!(edges::remove(e, Job(from), Job(to))?, Removed::Vanished)
+    };
+    if !turned {
+        return Ok(h);
     }
-    match edges::remove(e, Job(from), Job(to)) {
-        Removed::Bad => Err(Senseless),
-        Removed::Absent => Ok(h),
-        Removed::Lessened => Ok(h),
-        Removed::Vanished => {
-            heads[h] = to as u16;
-            Ok(h + 1)
-        }
-    }
+    heads[h] = to as u16;
+    Ok(h + 1)
 }
 
 // The edges s, one after the other, and how far the heads of those that appear or vanish reach.
@@ -92,7 +83,7 @@ fn exchange_links(
         went.old went.new at came.new result }
 {
     let f = same_front(&old[..], &new[..]);
-    let b = same_back(&old[..], &new[..], f);
+    let b = same_back(&old[f..], &new[f..]);
     let i = old.len() - b;
     let j = new.len() - b;
     exchange_part(e, &mut old[f..i], &mut new[f..j], went, at, came)

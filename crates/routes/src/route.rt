@@ -5,11 +5,10 @@ ghost use Rattle.rules.specs.Sizes.{most_entries, routes_length};
 ghost use Rattle.routes.specs.Raw.{Lies, settled};
 ghost use Rattle.routes.specs.Promises.{Fits, RoutesTurn};
 
-use crate::counts::{assign, unassign};
+use crate::counts::{recount, unassign};
 use crate::splices::{shift, shift_of, splice};
 use crate::{ASSIGNED, INVALID, STOPS, VIOLATED, WAITERS};
 use rules::{Owner, Plan};
-use words::wide;
 
 // Whether the owner's stops make sense, and k others have room in their place.
 pub fn fits(r: &[u16], owner: Owner, k: usize) -> bool
@@ -20,9 +19,9 @@ pub fn fits(r: &[u16], owner: Owner, k: usize) -> bool
     if Plan::OWNERS <= o {
         return false;
     }
-    let f = wide(r[o]);
-    let t = wide(r[o + 1]);
-    let n = wide(r[Plan::OWNERS]);
+    let f = usize::from(r[o]);
+    let t = usize::from(r[o + 1]);
+    let n = usize::from(r[Plan::OWNERS]);
     if t < f {
         return false;
     }
@@ -40,11 +39,11 @@ fn settle(r: &mut [u16], o: usize, s: &[u16])
     requires { (length r.old ≡ routes_length) × Lies r.old o (length s.now) }
     ensures { r.new ≡ settled o s.now r.old }
 {
-    let f = wide(r[o]);
-    let t = wide(r[o + 1]);
-    let n = wide(r[Plan::OWNERS]);
+    let f = usize::from(r[o]);
+    let t = usize::from(r[o + 1]);
+    let n = usize::from(r[Plan::OWNERS]);
     unassign(r, f, t);
-    assign(&mut r[ASSIGNED..WAITERS], s);
+    recount(&mut r[ASSIGNED..WAITERS], s, true);
     splice(&mut r[STOPS..INVALID], f, t, n, s);
     shift(&mut r[0..STOPS], o + 1, shift_of(t - f, s.len()));
 }

@@ -5,7 +5,6 @@ ghost use Rattle.routes.specs.Handing.{Stopped, Forced, Broken, Faults, Assigned
 
 use crate::{ASSIGNED, INVALID, STOPS, WAITERS};
 use rules::{Owner, Plan};
-use words::wide;
 
 // The owner's stops.
 pub fn stops(r: &[u16], owner: Owner) -> &[u16]
@@ -16,8 +15,8 @@ pub fn stops(r: &[u16], owner: Owner) -> &[u16]
     if Plan::OWNERS <= o {
         return &r[..0];
     }
-    let f = wide(r[o]);
-    let t = wide(r[o + 1]);
+    let f = usize::from(r[o]);
+    let t = usize::from(r[o + 1]);
     if t < f {
         return &r[..0];
     }
@@ -32,7 +31,7 @@ pub fn in_force(r: &[u16]) -> usize
     requires { length r.now ≡ routes_length }
     ensures { Forced r.now result }
 {
-    wide(r[Plan::OWNERS])
+    usize::from(r[Plan::OWNERS])
 }
 
 // Whether the owner's route was put with an invalid entry.

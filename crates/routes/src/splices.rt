@@ -13,9 +13,9 @@ pub fn splice(a: &mut [u16], f: usize, t: usize, n: usize, s: &[u16])
 {
     let mut rest = [0u16; Plan::ENTRIES];
     let k = f + s.len();
-    words::copy(&mut rest, 0, &a[..], t, n - t);
-    words::copy(&mut a[..], f, s, 0, s.len());
-    words::copy(&mut a[..], k, &rest, 0, Plan::ENTRIES - k);
+    rest[..n - t].copy_from_slice(&a[t..n]);
+    a[f..k].copy_from_slice(s);
+    a[k..].copy_from_slice(&rest[..Plan::ENTRIES - k]);
 }
 
 // By how much an offset moves, modulo 2^16, if `out` stops before it give way to `new`.
@@ -23,16 +23,14 @@ pub fn shift_of(out: usize, new: usize) -> u16
     requires { (out ≤ most_entries) × (new ≤ most_entries) }
     ensures { result ≡ shift_of out new }
 {
-    ((65536 + new - out) % 65536) as u16
+    (new as u16).wrapping_sub(out as u16)
 }
 
 // Each offset from `from` on is `by` more, modulo 2^16.
 pub fn shift(a: &mut [u16], from: usize, by: u16)
     ensures { a.new ≡ map_from (shifted by) from a.old }
 {
-    let mut i = from;
-    while i < a.len() {
-        a[i] = std::num::wrapping_add_u16(a[i], by);
-        i += 1;
+    for i in from..a.len() {
+        a[i] = a[i].wrapping_add(by);
     }
 }

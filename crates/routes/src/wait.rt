@@ -1,6 +1,5 @@
 // The waiting owners, in the order they began to wait.
 ghost use Rattle.std.specs.Prelude.{◌≡◌, ◌<◌, length};
-ghost use Rattle.rules.specs.Lists.{memb};
 ghost use Rattle.rules.specs.Sizes.{most_owners, routes_length};
 ghost use Rattle.routes.specs.Handing.{Waiting, GivenUp, Freed};
 ghost use Rattle.routes.specs.Promises.{Retracted, Cleared};
@@ -8,14 +7,13 @@ ghost use Rattle.routes.specs.Promises.{Retracted, Cleared};
 use crate::rows::stops;
 use crate::{WAITERS, WAITING};
 use rules::{Owner, Plan, Senseless};
-use words::wide;
 
 // Who waits.
 pub fn waiting(r: &[u16]) -> &[u16]
     requires { length r.now ≡ routes_length }
     ensures { Waiting r.now result.now }
 {
-    let k = wide(r[WAITERS]);
+    let k = usize::from(r[WAITERS]);
     if Plan::OWNERS < k {
         return &r[..0];
     }
@@ -27,7 +25,7 @@ fn given_up(r: &[u16], w: u16, owner: Owner) -> usize
     requires { length r.now ≡ routes_length }
     ensures { GivenUp r.now owner.0 w result }
 {
-    let waiter = w as u32;
+    let waiter = u32::from(w);
     if waiter == owner.0 {
         return 0;
     }
@@ -39,28 +37,11 @@ pub fn freed(r: &[u16], owner: Owner) -> usize
     requires { length r.now ≡ routes_length }
     ensures { Freed r.now owner.0 result }
 {
-    let row = waiting(r);
-    let mut sum: usize = 0;
-    let mut i: usize = 0;
-    while i < row.len() {
-        sum += given_up(r, row[i], owner);
-        i += 1;
+    let mut sum = 0;
+    for &w in waiting(r) {
+        sum += given_up(r, w, owner);
     }
     sum
-}
-
-// Whether x stands in a row.
-fn has(row: &[u16], x: u16) -> bool
-    ensures { result ≡ memb x row.now }
-{
-    let mut i: usize = 0;
-    while i < row.len() {
-        if row[i] == x {
-            return true;
-        }
-        i += 1;
-    }
-    false
 }
 
 // The owner waits, behind the others, unless it waits already.
@@ -69,11 +50,11 @@ pub fn retract(r: &mut [u16], owner: Owner) -> Result<(), Senseless>
     ensures { Retracted r.old owner.0 r.new result }
 {
     let x = owner.0 as u16;
-    let k = wide(r[WAITERS]);
+    let k = usize::from(r[WAITERS]);
     if Plan::OWNERS < k {
         return Err(Senseless);
     }
-    if has(waiting(&r[..]), x) {
+    if waiting(&r[..]).contains(&x) {
         return Ok(());
     }
     if k == Plan::OWNERS {

@@ -1,41 +1,14 @@
-use Rattle.routes.proofs.Tallying.{unassigning}
+use Rattle.std.proofs.Common.{arith, sym, length-take-le}
+use Rattle.routes.proofs.Tallying.{unassigned}
 use Rattle.routes.proofs.counts.unassign.Goals as goal
 
-pub loop-i-init : goal.loop-i-init
-loop-i-init c = search unassigning
+pub slice_bounds-recount-end-2 : goal.slice_bounds-recount-end-2
+slice_bounds-recount-end-2 c = sym (length-take-le _ _ (omega arith))
 
-pub overflow_add-stop : goal.overflow_add-stop
-overflow_add-stop c = search unassigning
-
-pub offset_bounds-r-i : goal.offset_bounds-r-i
-offset_bounds-r-i c = search unassigning
-
-pub bounds-r-i : goal.bounds-r-i
-bounds-r-i c = search unassigning
-
-pub slice_bounds-count-count : goal.slice_bounds-count-count
-slice_bounds-count-count c = search unassigning
-
-pub slice_bounds-count-start : goal.slice_bounds-count-start
-slice_bounds-count-start c = search unassigning
-
-pub slice_bounds-count-end : goal.slice_bounds-count-end
-slice_bounds-count-end c = search unassigning
-
-pub count-requires : goal.count-requires
-count-requires c = search unassigning
-
-pub overflow_add-i : goal.overflow_add-i
-overflow_add-i c = search unassigning
-
-pub loop-i-smaller : goal.loop-i-smaller
-loop-i-smaller c = search unassigning
-
-pub loop-i-preserved : goal.loop-i-preserved
-loop-i-preserved c = search unassigning
-
-pub shape_of-r : goal.shape_of-r
-shape_of-r c = search unassigning
+pub recount-requires : goal.recount-requires
+recount-requires c = length-take-le _ _ (omega arith)
 
 pub returns : goal.returns
-returns c = search unassigning
+returns c =
+    let rows = c.split_at_mut-rows.ensures in
+    unassigned _ _ _ c.requires.0 (c.requires.1, c.requires.2) rows.front rows.back c.recount.ensures

@@ -1,104 +1,46 @@
-use Rattle.routes.proofs.Sweeping.{turning}
+use Rattle.std.proofs.Common.{ap}
+use Rattle.routes.proofs.Sweeping.{Known, appeared, vanished, turning, one_still, one_turned, turn_added, turn_removed, turn_unadded, turn_unremoved, not_vanished}
 use Rattle.routes.proofs.exchange.turn.Goals as goal
+use Rattle.routes.proofs.exchange.turn.Goals.{then-more+in_ok-add+in-Appeared, then-more+in_ok-add+in_default, else-more+in_ok-remove+in-Vanished, else-more+in_ok-remove+in_default-matches}
 
 pub returns-then-from-ge-JOBS : goal.returns-then-from-ge-JOBS
 returns-then-from-ge-JOBS c = search turning
 
-pub add-requires : goal.add-requires
-add-requires c = search turning
+pub returns-in_err-add : goal.returns-in_err-add
+returns-in_err-add c = turn_unadded c.if-from-ge-JOBS.false _ c.add.ensures c.if-more.true c.in_err-add.was c.from_residual.ensures.0
 
-pub enum_told-1 : goal.enum_told-1
-enum_told-1 c = search turning
+pub returns-in_err-remove : goal.returns-in_err-remove
+returns-in_err-remove c =
+    turn_unremoved c.if-from-ge-JOBS.false _ c.remove.ensures c.if-more.false c.in_err-remove.was c.from_residual-in_err-remove.ensures.0
 
-pub enum_told-in-Counted : goal.enum_told-in-Counted
-enum_told-in-Counted c = search turning
+pub returns-then-not-turned : goal.returns-then-not-turned
+returns-then-not-turned c =
+    let near = c.if-from-ge-JOBS.false in
+    let k : Known c.args.more c.args.x c.args.e.now c.if-more.e c.if-more.turned = elim c.if-more.branch [
+      | then-more+in_ok-add+in-Appeared w ↦
+          rw (w.e-is, w.turned-is) (turn_added _ near w.add.ensures w.if-more.true w.in_ok-add.was (ap appeared w.in-Appeared.is))
+      | then-more+in_ok-add+in_default w ↦
+          rw (w.e-is, w.turned-is) (turn_added _ near w.add.ensures w.if-more.true w.in_ok-add.was (ap appeared w.in_default.is))
+      | else-more+in_ok-remove+in-Vanished w ↦
+          rw (w.e-is, w.turned-is) (turn_removed _ near w.remove.ensures w.if-more.false w.in_ok-remove.was (ap vanished w.in-Vanished.is))
+      | else-more+in_ok-remove+in_default-matches w ↦
+          rw (w.e-is, w.turned-is) (turn_removed _ near w.remove.ensures w.if-more.false w.in_ok-remove.was
+          (not_vanished _ w.in_default-matches.not-Vanished))
+    ] in
+    one_still (rw c.if-not-turned.true at k)
 
-pub enum_told-in-Appeared : goal.enum_told-in-Appeared
-enum_told-in-Appeared c = search turning
-
-pub overflow_cast-heads : goal.overflow_cast-heads
-overflow_cast-heads c = search turning
-
-pub offset_bounds-heads-h : goal.offset_bounds-heads-h
-offset_bounds-heads-h c = search turning
-
-pub bounds-heads-h : goal.bounds-heads-h
-bounds-heads-h c = search turning
-
-pub overflow_add-result : goal.overflow_add-result
-overflow_add-result c = search turning
-
-pub shape_of-e-in-Bad : goal.shape_of-e-in-Bad
-shape_of-e-in-Bad c = search turning
-
-pub returns-in-Bad : goal.returns-in-Bad
-returns-in-Bad c = search turning
-
-pub shape_of-e-in-Counted : goal.shape_of-e-in-Counted
-shape_of-e-in-Counted c = search turning
-
-pub returns-in-Counted : goal.returns-in-Counted
-returns-in-Counted c = search turning
-
-pub shape_of-e-in-Appeared : goal.shape_of-e-in-Appeared
-shape_of-e-in-Appeared c = search turning
-
-pub shape_of-heads-then-more : goal.shape_of-heads-then-more
-shape_of-heads-then-more c = search turning
-
-pub returns-in-Appeared : goal.returns-in-Appeared
-returns-in-Appeared c = search turning
-
-pub remove-requires : goal.remove-requires
-remove-requires c = search turning
-
-pub enum_told-in-Bad-remove : goal.enum_told-in-Bad-remove
-enum_told-in-Bad-remove c = search turning
-
-pub enum_told-in-Absent : goal.enum_told-in-Absent
-enum_told-in-Absent c = search turning
-
-pub enum_told-in-Lessened : goal.enum_told-in-Lessened
-enum_told-in-Lessened c = search turning
-
-pub enum_told-in-Vanished : goal.enum_told-in-Vanished
-enum_told-in-Vanished c = search turning
-
-pub overflow_cast-heads-in-Vanished : goal.overflow_cast-heads-in-Vanished
-overflow_cast-heads-in-Vanished c = search turning
-
-pub offset_bounds-heads-h-in-Vanished : goal.offset_bounds-heads-h-in-Vanished
-offset_bounds-heads-h-in-Vanished c = search turning
-
-pub bounds-heads-h-in-Vanished : goal.bounds-heads-h-in-Vanished
-bounds-heads-h-in-Vanished c = search turning
-
-pub overflow_add-result-in-Vanished : goal.overflow_add-result-in-Vanished
-overflow_add-result-in-Vanished c = search turning
-
-pub shape_of-e-in-Bad-remove : goal.shape_of-e-in-Bad-remove
-shape_of-e-in-Bad-remove c = search turning
-
-pub returns-in-Bad-remove : goal.returns-in-Bad-remove
-returns-in-Bad-remove c = search turning
-
-pub shape_of-e-in-Absent : goal.shape_of-e-in-Absent
-shape_of-e-in-Absent c = search turning
-
-pub returns-in-Absent : goal.returns-in-Absent
-returns-in-Absent c = search turning
-
-pub shape_of-e-in-Lessened : goal.shape_of-e-in-Lessened
-shape_of-e-in-Lessened c = search turning
-
-pub returns-in-Lessened : goal.returns-in-Lessened
-returns-in-Lessened c = search turning
-
-pub shape_of-e-in-Vanished : goal.shape_of-e-in-Vanished
-shape_of-e-in-Vanished c = search turning
-
-pub shape_of-heads : goal.shape_of-heads
-shape_of-heads c = search turning
-
-pub returns-in-Vanished : goal.returns-in-Vanished
-returns-in-Vanished c = search turning
+pub returns : goal.returns
+returns c =
+    let near = c.if-from-ge-JOBS.false in
+    let k : Known c.args.more c.args.x c.args.e.now c.if-more.e c.if-more.turned = elim c.if-more.branch [
+      | then-more+in_ok-add+in-Appeared w ↦
+          rw (w.e-is, w.turned-is) (turn_added _ near w.add.ensures w.if-more.true w.in_ok-add.was (ap appeared w.in-Appeared.is))
+      | then-more+in_ok-add+in_default w ↦
+          rw (w.e-is, w.turned-is) (turn_added _ near w.add.ensures w.if-more.true w.in_ok-add.was (ap appeared w.in_default.is))
+      | else-more+in_ok-remove+in-Vanished w ↦
+          rw (w.e-is, w.turned-is) (turn_removed _ near w.remove.ensures w.if-more.false w.in_ok-remove.was (ap vanished w.in-Vanished.is))
+      | else-more+in_ok-remove+in_default-matches w ↦
+          rw (w.e-is, w.turned-is) (turn_removed _ near w.remove.ensures w.if-more.false w.in_ok-remove.was
+          (not_vanished _ w.in_default-matches.not-Vanished))
+    ] in
+    one_turned (rw c.if-not-turned.false at k) c.requires.1

@@ -1,11 +1,9 @@
-use Rattle.words.proofs.Sweeps.{map_done, map_next, map_none}
+use Rattle.std.proofs.Common.{arith, refl}
+use Rattle.words.proofs.Sweeps.{map_done, map_next}
 use Rattle.routes.proofs.splices.shift.Goals as goal
 
-pub loop-i-init : goal.loop-i-init
-loop-i-init c = search map_none
-
 pub loop-i-preserved : goal.loop-i-preserved
-loop-i-preserved c = search map_next
+loop-i-preserved c = map_next c.loop-i.invariant refl (omega arith)
 
 pub returns : goal.returns
-returns c = search map_done
+returns c = map_done c.loop-i.invariant (omega arith)
