@@ -5,11 +5,11 @@ use native.Mathlib.Omega.{arith}
 use mathlib.Core.Path.{◌≡◌, refl, sym, ap, ◌∙◌}
 use mathlib.Core.Bool.{Bool, true, false, not, ◌&&◌, ◌||◌}
 use mathlib.Core.Option.{Option, none, some}
-use mathlib.Core.List.{List}
+use mathlib.Core.List.{List, [], ◌∷◌}
 use lib.ListN.{length, get_or, drop, drop_of_length-le}
 use lib.Seq.{drop-cons}
 use lib.Dec.{eqb, ltb, leb}
-use borrow.Author.Tests.{eq-eqb, ne_eqb, lt-ltb, le-ltb, le-leb, lt-leb, eqb-true, ltb-false, not-true, not-false}
+use borrow.Author.Tests.{lt-ltb, le-ltb, le-leb, lt-leb, eqb-true, ltb-false, not-true, not-false}
 use Rattle.rules.specs.declared.Refusal.{Refusal}
 use Rattle.rules.specs.declared.Refusal.TheVariants.{BadSize, LongDuration, BadFixed}
 use Rattle.rules.specs.Lists.{is_zero, any_of}
@@ -17,66 +17,19 @@ use Rattle.rules.specs.Sizes.{most_jobs, most_owners, most_fixed, Loading, break
 use Rattle.rules.proofs.Members.{or_false}
 use Rattle.rules.proofs.Ranges.{and_true}
 use Rattle.rules.specs.Refusals.{first_of, load_checks}
+use Rattle.std.specs.List.{list_any}
 use Rattle.std.specs.Prelude.{Ok, Err}
 use Rattle.refresh.specs.Loads.{breaks_by, bad_after, checked_as}
 
--- ── sizes ──
+-- ── durations ──
 
-not_zero : (e : ℕ) → (e ≡ 0 → ⊥) → is_zero e ≡ false
-not_zero zero h = absurd (h refl)
-not_zero (suc e) h = refl
-
-and_no : (a : Bool) → a && false ≡ false
-and_no true = refl
-and_no false = refl
+any_list : {A : Type 0} (p : A → Bool) (l : List A) → any_of p l ≡ list_any p l
+any_list p [] = refl
+any_list p (x ∷ l) = ap (λ (b : Bool). p x || b) (any_list p l)
 
 or_yes : (a : Bool) → a || true ≡ true
 or_yes true = refl
 or_yes false = refl
-
-many_fixed : (j o f : ℕ) → most_fixed < f → fits_sizes j o f ≡ false
-many_fixed j o f h = rw (lt-ltb most_fixed f h, and_no, and_no)
-
-module _ (j o d e f t : ℕ) where
-  pub breaks_counts : fits_sizes j o f ≡ false → true ≡ breaks_by j o d e f t
-  unfolding breaks_by
-  breaks_counts q = rw q
-
-  pub breaks_fixed : most_fixed < f → true ≡ breaks_by j o d e f t
-  breaks_fixed h = breaks_counts (many_fixed j o f h)
-
-  module _ (fits : fits_sizes j o f ≡ true) where
-    pub breaks_pairs : (f ≡ t → ⊥) → true ≡ breaks_by j o d e f t
-    unfolding breaks_by
-    breaks_pairs h = rw (fits, ne_eqb f t h)
-
-    module _ (pairs : f ≡ t) where
-      pub breaks_durations : (d ≡ j → ⊥) → true ≡ breaks_by j o d e f t
-      unfolding breaks_by
-      breaks_durations h = rw (fits, eq-eqb f t pairs, ne_eqb d j h)
-
-      pub breaks_none : d ≡ j → e ≡ 0 → false ≡ breaks_by j o d e f t
-      unfolding breaks_by
-      breaks_none q h = rw (fits, eq-eqb f t pairs, eq-eqb d j q, h)
-
-      pub breaks_expected : d ≡ j → (e ≡ 0 → ⊥) → not (eqb e j) ≡ breaks_by j o d e f t
-      unfolding breaks_by
-      breaks_expected q h = rw (fits, eq-eqb f t pairs, eq-eqb d j q, not_zero e h)
-
--- ── durations: those below i pass ──
-
-pub record Passing (p : ℕ → Bool) (l : List ℕ) (i : ℕ) : Type 0 where
-  pub left : any_of p (drop i l) ≡ any_of p l
-
-module _ {p : ℕ → Bool} {l : List ℕ} {i : ℕ} (so_far : Passing p l i) where
-  pub any_hit : i < length l → p (get_or l i 0) ≡ true → true ≡ any_of p l
-  any_hit h q = sym (ap (any_of p) (drop-cons l i 0 h) ∙ rw q) ∙ so_far.left
-
-  pub any_turn : i < length l → p (get_or l i 0) ≡ false → Passing p l (i + 1)
-  any_turn h q = record { left = rw add-one (sym (ap (any_of p) (drop-cons l i 0 h) ∙ rw q) ∙ so_far.left) }
-
-  pub any_done : length l ≤ i → false ≡ any_of p l
-  any_done h = sym (ap (any_of p) (drop_of_length-le l h)) ∙ so_far.left
 
 -- ── the fixed list's `from`: those below i are jobs and do not fall ──
 
@@ -117,9 +70,9 @@ module _ (l : Loading) where
   unfolding breaks_size breaks_by
   broken_is = refl
 
-  long_is : has_long l ≡ any_of is_long l.durations
+  long_is : has_long l ≡ list_any is_long l.durations
   unfolding has_long
-  long_is = refl
+  long_is = any_list is_long l.durations
 
   from_is : bad_from l ≡ bad_after l.jobs 0 l.from
   unfolding bad_from bad_after
@@ -128,14 +81,14 @@ module _ (l : Loading) where
   pub checked_size : true ≡ Broken → Err BadSize ≡ checked_as (first_of (load_checks l))
   checked_size a = rw (broken_is, ← a)
 
-  pub checked_long : false ≡ Broken → true ≡ any_of is_long l.durations → Err LongDuration ≡ checked_as (first_of (load_checks l))
+  pub checked_long : false ≡ Broken → true ≡ list_any is_long l.durations → Err LongDuration ≡ checked_as (first_of (load_checks l))
   checked_long a b = rw (broken_is, ← a, long_is, ← b)
 
-  pub checked_from : false ≡ Broken → false ≡ any_of is_long l.durations → true ≡ bad_after l.jobs 0 l.from
+  pub checked_from : false ≡ Broken → false ≡ list_any is_long l.durations → true ≡ bad_after l.jobs 0 l.from
       → Err BadFixed ≡ checked_as (first_of (load_checks l))
   checked_from a b c = rw (broken_is, ← a, long_is, ← b, from_is, ← c)
 
-  pub checked_fine : false ≡ Broken → false ≡ any_of is_long l.durations → false ≡ bad_after l.jobs 0 l.from
+  pub checked_fine : false ≡ Broken → false ≡ list_any is_long l.durations → false ≡ bad_after l.jobs 0 l.from
       → Ok tt ≡ checked_as (first_of (load_checks l))
   checked_fine a b c = rw (broken_is, ← a, long_is, ← b, from_is, ← c)
 

@@ -1,5 +1,6 @@
 // A load: every argument is checked, then every word is written.
 ghost use Rattle.std.specs.Prelude.{◌≡◌, ◌++◌, ◌∷◌, [], ◌+◌, ◌-◌, ◌≤◌, length, drop, replicate};
+ghost use Rattle.std.specs.List.{list_any};
 ghost use Rattle.std.proofs.lemmas.List.Edits.{sets};
 ghost use Rattle.rules.specs.Lists.{any_of};
 ghost use Rattle.rules.specs.Sizes.{base_of, is_long, base_length, edges_length, most_fixed, most_jobs, routes_length, spans_length, times_length};
@@ -30,6 +31,7 @@ pub struct Loading<'a> {
 }
 
 // A count, or a table's length, breaks its size.
+#[tactic(auto, unfolding(crate::specs::Loads::breaks_by))]
 fn breaks(jobs: u32, owners: u32, durations: usize, expected: usize, from: usize, to: usize) -> bool
     ensures { result ≡ breaks_by jobs owners durations expected from to }
 {
@@ -37,54 +39,31 @@ fn breaks(jobs: u32, owners: u32, durations: usize, expected: usize, from: usize
         return true;
     }
     let plan = Plan {
-        jobs: jobs,
-        owners: owners,
+        jobs,
+        owners,
         fixed: from as u32,
     };
-    if !plan.fits() {
-        return true;
-    }
-    if from != to {
-        return true;
-    }
     let n = jobs as usize;
-    if durations != n {
-        return true;
-    }
-    if expected == 0 {
-        return false;
-    }
-    expected != n
+    !plan.fits() || from != to || durations != n || (expected != 0 && expected != n)
 }
 
+// A duration is too long.
 fn has_long(durations: &[u64]) -> bool
-    ensures { result ≡ any_of is_long durations.now }
+    ensures { result ≡ list_any is_long durations.now }
 {
-    let mut i: usize = 0;
-    while i < durations.len() {
-        if Plan::too_long(durations[i]) {
-            return true;
-        }
-        i += 1;
-    }
-    false
+    durations.iter().any(|d| Plan::too_long(*d))
 }
 
+// A tail is no job, or the tails fall.
 fn bad_from(from: &[u32], n: u32) -> bool
     ensures { result ≡ bad_after n 0 from.now }
 {
-    let mut last: u32 = 0;
-    let mut i: usize = 0;
-    while i < from.len() {
-        let a = from[i];
-        if n <= a {
-            return true;
-        }
-        if a < last {
+    let mut last = 0;
+    for &a in from {
+        if n <= a || a < last {
             return true;
         }
         last = a;
-        i += 1;
     }
     false
 }
