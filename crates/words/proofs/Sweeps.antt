@@ -1,4 +1,5 @@
--- A loop that rewrites a list in place: what is still to do, done to the list at hand, gives the whole. Assumes nothing.
+-- A list rewritten in place: by a copy within it, or by a loop, whose invariant is that what is still to do, done to the list at hand, gives
+-- the whole. Assumes nothing.
 use Prim.Native.Nat.{ℕ, zero, suc, ◌+◌, ◌-◌, ◌≤◌, ◌<◌}
 use native.Mathlib.Nat.{le_of_suc-le-suc, not-suc-le-zero}
 use native.Mathlib.Omega.{arith}
@@ -10,71 +11,7 @@ use Rattle.std.specs.List.{copy_within}
 use Rattle.std.proofs.lemmas.List.{take_all}
 use Rattle.words.specs.Words.{insert_at, remove_at, swap_remove, map_from}
 
--- ── insert_at: x at place k of the first i places, what stood from there on one place up ──
-
-unfoldable pub insert_to : ℕ → ℕ → ℕ → List ℕ → List ℕ
-insert_to zero k x a = a
-insert_to (suc i) k x [] = []
-insert_to (suc i) zero x (y ∷ a) = x ∷ insert_to i zero y a
-insert_to (suc i) (suc k) x (y ∷ a) = y ∷ insert_to i k x a
-
-insert_all : (i k x : ℕ) (a : List ℕ) → length a ≤ i → insert_to i k x a ≡ insert_at k x a
-unfolding insert_to insert_at
-insert_all zero k x [] h = refl
-insert_all zero k x (y ∷ a) h = absurd (not-suc-le-zero h)
-insert_all (suc i) k x [] h = refl
-insert_all (suc i) zero x (y ∷ a) h = ap (λ (l : List ℕ). x ∷ l) (insert_all i zero y a (le_of_suc-le-suc h))
-insert_all (suc i) (suc k) x (y ∷ a) h = ap (λ (l : List ℕ). y ∷ l) (insert_all i k x a (le_of_suc-le-suc h))
-
-insert_step : (j k x : ℕ) (a : List ℕ) → k ≤ j → suc j < length a
-    → insert_to (suc j) k x (set a (suc j) (get_or a j 0)) ≡ insert_to (suc (suc j)) k x a
-unfolding insert_to
-insert_step j k x [] h l = absurd (not-suc-le-zero l)
-insert_step zero zero x (y ∷ []) h l = absurd (not-suc-le-zero (le_of_suc-le-suc l))
-insert_step zero zero x (y ∷ z ∷ a) h l = refl
-insert_step zero (suc k) x (y ∷ a) h l = absurd (not-suc-le-zero h)
-insert_step (suc j) zero x (y ∷ a) h l = ap (λ (r : List ℕ). x ∷ r) (insert_step j zero y a (omega arith) (le_of_suc-le-suc l))
-insert_step (suc j) (suc k) x (y ∷ a) h l =
-    ap (λ (r : List ℕ). y ∷ r) (insert_step j k x a (le_of_suc-le-suc h) (le_of_suc-le-suc l))
-
-insert_turn : (i p q k x : ℕ) (a : List ℕ) → i ≡ suc (suc q) → p ≡ suc q → k ≤ q → p < length a
-    → insert_to p k x (set a p (get_or a q 0)) ≡ insert_to i k x a
-insert_turn i p q k x a ei ep h l = rw (ei, ep) (insert_step q k x a h (omega arith))
-
-insert_last : (k x : ℕ) (a : List ℕ) → k < length a → set a k x ≡ insert_to (suc k) k x a
-unfolding insert_to
-insert_last k x [] h = absurd (not-suc-le-zero h)
-insert_last zero x (y ∷ a) h = refl
-insert_last (suc k) x (y ∷ a) h = ap (λ (l : List ℕ). y ∷ l) (insert_last k x a (le_of_suc-le-suc h))
-
-pub record Inserting (k x : ℕ) (a₀ a : List ℕ) (i : ℕ) : Type 0 where
-  pub above : k < i
-  pub within : i ≤ length a₀
-  pub long : length a ≡ length a₀
-  pub left : insert_to i k x a ≡ insert_at k x a₀
-
-pub insert_none : {k : ℕ} (x : ℕ) (a : List ℕ) → k < length a → Inserting k x a a (length a)
-insert_none {k} x a h = record { above = h; within = omega arith; long = refl; left = insert_all (length a) k x a (omega arith) }
-
-module _ {k x : ℕ} {a₀ a : List ℕ} {i : ℕ} (S : Inserting k x a₀ a i) where
-  pub insert_next : k + 1 < i → Inserting k x a₀ (set a (i - 1) (get_or a (i - 1 - 1) 0)) (i - 1)
-  insert_next h = record {
-    above = omega arith;
-    within = omega (arith, S.within);
-    long = length-set a (i - 1) (get_or a (i - 1 - 1) 0) ∙ S.long;
-    left =
-        insert_turn i (i - 1) (i - 1 - 1) k x a (omega arith) (omega arith) (omega arith) (omega (arith, S.within, S.long)) ∙ S.left;
-  }
-
-  pub insert_done : i ≤ k + 1 → set a k x ≡ insert_at k x a₀
-  insert_done h =
-      let p : i ≡ suc k = (let z = S.above in omega arith) in
-      insert_last k x a (omega (arith, S.above, S.within, S.long)) ∙ (rw p at S.left)
-
-  pub insert_long : length (set a k x) ≡ length a₀
-  insert_long = length-set a k x ∙ S.long
-
--- ── insert_at and remove_at as the library's copy within a list ──
+-- ── insert_at: a copy within the list, one place up, and x in the place that is left ──
 
 module _ {X : Type 0} where
   pushed : (n : ℕ) (x : X) (l : List X) → n ≡ length l → take n (x ∷ l) ≡ insert_at 0 x l
@@ -95,7 +32,7 @@ module _ {X : Type 0} where
       let z : k + 1 + (length a - 1 - k) ≡ length a = omega arith in
       rw (z, drop_of_length-le a {i = length a} (omega arith), append-nil, add-one) (moved_up k (length a - 1 - k) x a (omega arith))
 
--- ── remove_at ──
+-- ── remove_at: a copy one place down, and 0 at the end ──
 
 zero_last : (y : ℕ) (l : List ℕ) → set (l ++ drop (length l) (y ∷ l)) (length l) 0 ≡ l ++ 0 ∷ []
 zero_last y [] = refl
@@ -140,19 +77,9 @@ pub record Mapping (f : ℕ → ℕ) (k : ℕ) (a₀ a : List ℕ) (i : ℕ) : T
   pub long : length a ≡ length a₀
   pub left : map_from f i a ≡ map_from f k a₀
 
-pub map_none : (f : ℕ → ℕ) (k : ℕ) (a : List ℕ) → Mapping f k a a k
-map_none f k a = record { long = refl; left = refl }
-
 module _ {f : ℕ → ℕ} {k : ℕ} {a₀ a : List ℕ} {i : ℕ} (S : Mapping f k a₀ a i) where
   pub map_next : {v : ℕ} → v ≡ f (get_or a i 0) → i < length a → Mapping f k a₀ (set a i v) (i + 1)
   map_next {v} e h = record { long = length-set a i v ∙ S.long; left = rw (e, add-one i) (map_step f i a h ∙ S.left) }
 
   pub map_done : length a ≤ i → a ≡ map_from f k a₀
   map_done h = sym (map_past f i a h) ∙ S.left
-
-  -- the same in a loop over the places of a₀
-  pub map_on : {v : ℕ} → v ≡ f (get_or a i 0) → i < length a₀ → Mapping f k a₀ (set a i v) (i + 1)
-  map_on e h = map_next e (omega (arith, S.long))
-
-  pub map_end : length a₀ ≤ i → a ≡ map_from f k a₀
-  map_end h = map_done (omega (arith, S.long))

@@ -1,16 +1,15 @@
--- Words written one after the other: what is still to write, behind what is written, gives the whole. One law for every width, since a
--- list of words does not tell it. Assumes nothing.
+-- Elements written one after the other: what is still to write, behind what is written, gives the whole. Assumes nothing.
 use Prim.Native.Nat.{ℕ, suc, ◌+◌, ◌-◌, ◌≤◌, ◌<◌}
 use native.Mathlib.Nat.{add-zero}
 use native.Mathlib.Numerals.{add-one}
 use native.Mathlib.Omega.{arith}
 use mathlib.Core.Path.{◌≡◌, refl, sym, ap, ◌∙◌}
-use mathlib.Core.List.{List, ◌++◌, map}
+use mathlib.Core.List.{List, ◌++◌}
 use lib.ListN.{length, get_or, set, take, drop, replicate, length-set, drop_of_length-le}
 use borrow.Rule.Slice.PartMut.{put_mid}
 use Rattle.std.proofs.lemmas.List.{take_all}
 use Rattle.std.proofs.lemmas.Slice.{put_mid-paste}
-use lib.Seq.{sets, sets-eq, slice, slice-cons, slice_empty, drop-cons, get_or-take, get_or-drop, length-take-le, length-slice, take-set-lt, drop-set-lt}
+use lib.Seq.{sets, sets-eq, slice, drop-cons, get_or-take, get_or-drop, length-slice}
 
 -- ── the words of l from place `at` on: i of them are there ──
 
@@ -32,14 +31,6 @@ module _ {a₀ : List ℕ} {at : ℕ} {l a : List ℕ} {i : ℕ} (S : Copying a�
 
   copy_done : length l ≤ i → a ≡ sets a₀ at l
   copy_done h = sym (ap (sets a (at + i)) (drop_of_length-le l h)) ∙ S.left
-
--- the first k words of s, and those from `from` on
-module _ (k : ℕ) (s : List ℕ) {a₀ : List ℕ} {at : ℕ} {a : List ℕ} {i : ℕ} (S : Copying a₀ at (take k s) a i) (fits : k ≤ length s) where
-  pub take_next : i < k → Copying a₀ at (take k s) (set a (at + i) (get_or s i 0)) (i + 1)
-  take_next h = copy_next S (get_or s i 0) (get_or-take k s i 0 h) (rw (length-take-le k s fits) h)
-
-  pub take_done : k ≤ i → a ≡ sets a₀ at (take k s)
-  take_done h = copy_done S (rw (length-take-le k s fits) h)
 
 module _ (from k : ℕ) (s : List ℕ) {a₀ : List ℕ} {at : ℕ} {a : List ℕ} {i : ℕ} (S : Copying a₀ at (slice from (from + k) s) a i)
     (fits : from + k ≤ length s) where
@@ -68,9 +59,6 @@ pub record Filling {X : Type 0} (a₀ : List X) (from to : ℕ) (x : X) (a : Lis
   pub long : length a ≡ length a₀
   pub left : sets a i (replicate (to - i) x) ≡ sets a₀ from (replicate (to - from) x)
 
-pub fill_none : {X : Type 0} (a : List X) (from to : ℕ) (x : X) → Filling a from to x a from
-fill_none a from to x = record { long = refl; left = refl }
-
 module _ {X : Type 0} {a₀ : List X} {from to : ℕ} {x : X} {a : List X} {i : ℕ} (S : Filling a₀ from to x a i) where
   pub fill_next : i < to → Filling a₀ from to x (set a i x) (i + 1)
   fill_next h =
@@ -80,23 +68,3 @@ module _ {X : Type 0} {a₀ : List X} {from to : ℕ} {x : X} {a : List X} {i : 
         left = rw add-one
             (sym (ap (λ (k : ℕ). sets a i (replicate k x)) (p ∙ ap (λ (k : ℕ). suc (to - k)) (add-one i))) ∙ S.left);
       }
-
-  pub fill_done : to ≤ i → a ≡ sets a₀ from (replicate (to - from) x)
-  fill_done h = let p : to - i ≡ 0 = omega arith in sym (ap (λ (k : ℕ). sets a i (replicate k x)) p) ∙ S.left
-
--- ── g at each place up to `to` ──
-
--- a word below does not count
-slice_set : (l : List ℕ) (i f t v : ℕ) → i < f → f ≤ t → slice f t (set l i v) ≡ slice f t l
-slice_set l i f t v h k = ap (drop f) (take-set-lt t l i v (omega arith)) ∙ drop-set-lt f (take t l) i v h
-
-pub map_turn : (g : ℕ → ℕ) (a z : List ℕ) (i to y : ℕ) → sets a i (map g (slice i to a)) ≡ z → i < to → to ≤ length a
-    → y ≡ g (get_or a i 0)
-    → sets (set a i y) (i + 1) (map g (slice (i + 1) to (set a i y))) ≡ z
-map_turn g a z i to y e h l q =
-    rw (add-one, slice_set a i (suc i) to y (omega arith) (omega arith), q)
-    (sym (ap (λ (x : List ℕ). sets a i (map g x)) (slice-cons i to a 0 h l)) ∙ e)
-
-pub map_done : (g : ℕ → ℕ) (a z : List ℕ) (i to : ℕ) → sets a i (map g (slice i to a)) ≡ z → to ≡ i → a ≡ z
-map_done g a z i to e h =
-    sym (ap (λ (t : ℕ). sets a i (map g (slice i t a))) h ∙ ap (λ (x : List ℕ). sets a i (map g x)) (slice_empty i a)) ∙ e

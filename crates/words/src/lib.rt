@@ -1,14 +1,11 @@
-// The leaves: words in a lent slice, of 16 bits here, of 32 and 64 in the modules. Each function has the exact contents after it as its
-// contract.
+// The leaves: words in a lent slice. Each function has the exact contents after it as its contract, and those that only move words serve
+// every width.
 #![tactic(auto)]
 
 ghost use Rattle.std.specs.Prelude.{◌≡◌, ◌+◌, ◌-◌, ◌<◌, ◌≤◌, length, replicate, take};
 ghost use Rattle.std.proofs.Math.Seq.{slice};
 ghost use Rattle.std.proofs.lemmas.List.Edits.{sets};
 ghost use Rattle.words.specs.Words.{insert_at, remove_at, swap_remove, map_from, up, down, find_from};
-
-pub mod u32s;
-pub mod u64s;
 
 // A word as a number of places.
 pub fn wide(x: u16) -> usize

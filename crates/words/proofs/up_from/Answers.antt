@@ -1,11 +1,9 @@
-use Rattle.words.proofs.Sweeps.{map_end, map_none, map_on}
+use native.Mathlib.Omega.{arith}
+use Rattle.words.proofs.Sweeps.{map_done, map_next}
 use Rattle.words.proofs.up_from.Goals as goal
 
-pub loop-i-init : goal.loop-i-init
-loop-i-init c = search map_none
-
 pub loop-i-preserved : goal.loop-i-preserved
-loop-i-preserved c = search map_on
+loop-i-preserved c = map_next c.loop-i.invariant c.saturating_add.ensures (omega arith)
 
 pub returns : goal.returns
-returns c = search map_end
+returns c = map_done c.loop-i.invariant (omega arith)
