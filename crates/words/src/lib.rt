@@ -48,6 +48,7 @@ pub fn swap_remove(a: &mut [u16], p: usize, t: usize)
 pub fn up_from(a: &mut [u16], k: usize)
     ensures { a.new ≡ map_from up k a.old }
 {
+    // By place, here and below: k may lie beyond the end, where no part of the slice begins.
     for i in k..a.len() {
         a[i] = a[i].saturating_add(1);
     }
@@ -96,8 +97,8 @@ pub fn fill<T: Copy>(a: &mut [T], from: usize, to: usize, x: T)
     requires { (from ≤ to) × (to ≤ length a.old) }
     ensures { a.new ≡ sets a.old from (replicate (to - from) x) }
 {
-    for i in from..to {
-        a[i] = x;
+    for y in a[from..to].iter_mut() {
+        *y = x;
     }
 }
 

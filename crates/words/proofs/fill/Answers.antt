@@ -1,5 +1,8 @@
-use Rattle.words.proofs.Writes.{fill_next}
+use Rattle.words.proofs.Writes.{fill_next, filled}
 use Rattle.words.proofs.fill.Goals as goal
 
-pub loop-i-preserved : goal.loop-i-preserved
-loop-i-preserved g c = search fill_next
+pub loop-y-preserved : goal.loop-y-preserved
+loop-y-preserved g c = fill_next c.loop-y.invariant c.loop-y-test.true
+
+pub returns : goal.returns
+returns g c = filled c.args.from c.args.to c.args.a.now c.requires.0 c.requires.1 c.loop-y.invariant c.loop-y-test.false
