@@ -4,35 +4,33 @@ ghost use Rattle.rules.specs.Sizes.{most_jobs, most_entries, edges_length, route
 ghost use Rattle.puts.specs.Puts.{RouteTurn, OneEmptied, EachEmptied, AllEmptied, Crowded, StopsPut, PutPromised};
 
 use routes::exchange::exchange;
-use routes::route::{fits, put_route};
+use routes::route::{Route, fits, put_route};
 use routes::rows::{in_force, stops};
 use routes::snap::snapshot;
 use routes::wait::{clear, freed, waiting};
 use rules::{Owner, Plan, Refusal, Senseless};
 
-// The owner's route becomes the stops s, and the edges follow: the heads of those that vanished are listed in `went` from `at` on, of those
+// The owner gets the route, and the edges follow: the heads of those that vanished are listed in `went` from `at` on, of those
 // that appeared in `came`. The answer is how far both reach.
 fn swap_route(
     r: &mut [u16],
     e: &mut [u16],
     owner: Owner,
-    s: &[u16],
-    invalid: u16,
-    violated: u16,
+    route: Route,
     went: &mut [u16],
     at: usize,
     came: &mut [u16],
 ) -> Result<(usize, usize), Senseless>
-    requires sizes { (length r.old ≡ routes_length) × (length e.old ≡ edges_length) × (length s.now ≤ most_entries) }
-    requires room { (at ≤ length went.old) × (length s.now ≤ length came.old) }
-    ensures { RouteTurn r.old e.old owner.0 s.now invalid violated r.new e.new
+    requires sizes { (length r.old ≡ routes_length) × (length e.old ≡ edges_length) × (length route.stops.now ≤ most_entries) }
+    requires room { (at ≤ length went.old) × (length route.stops.now ≤ length came.old) }
+    ensures { RouteTurn r.old e.old owner.0 route.entry.stops.now route.entry.invalid route.entry.violated r.new e.new
         went.old went.new at came.new result }
 {
-    if !fits(&r[..], owner, s.len()) {
+    if !fits(&r[..], owner, route.stops.len()) {
         return Err(Senseless);
     }
-    let reach = exchange(e, stops(&r[..], owner), s, went, at, came)?;
-    put_route(r, owner, s, invalid, violated);
+    let reach = exchange(e, stops(&r[..], owner), route.stops, went, at, came)?;
+    put_route(r, owner, route);
     Ok(reach)
 }
 
@@ -53,7 +51,12 @@ fn empty_one(
     if waiter == owner.0 {
         return Ok(at);
     }
-    let (h, _) = swap_route(r, e, Owner(waiter), &[], 0, 0, went, at, &mut [])?;
+    let none = Route {
+        stops: &[],
+        invalid: 0,
+        violated: 0,
+    };
+    let (h, _) = swap_route(r, e, Owner(waiter), none, went, at, &mut [])?;
     Ok(h)
 }
 
@@ -114,25 +117,23 @@ pub struct Heads {
     pub gone: usize,
 }
 
-// The waiting owners give up their routes, then the owner's becomes the stops s.
+// The waiting owners give up their routes, then the owner gets its own.
 fn put_stops(
     r: &mut [u16],
     e: &mut [u16],
     owner: Owner,
-    s: &[u16],
-    invalid: u16,
-    violated: u16,
+    route: Route,
     came: &mut [u16],
     went: &mut [u16],
     gone: &mut [u16],
 ) -> Result<Heads, Senseless>
-    requires sizes { (length r.old ≡ routes_length) × (length e.old ≡ edges_length) × (length s.now ≤ most_entries) }
+    requires sizes { (length r.old ≡ routes_length) × (length e.old ≡ edges_length) × (length route.stops.now ≤ most_entries) }
     requires room { (most_entries ≤ length came.old) × (most_entries ≤ length went.old) × (most_entries ≤ length gone.old) }
-    ensures { StopsPut r.old e.old owner.0 s.now invalid violated r.new e.new
+    ensures { StopsPut r.old e.old owner.0 route.entry.stops.now route.entry.invalid route.entry.violated r.new e.new
         came.old came.new went.old went.new gone.old gone.new result }
 {
     let g = empty_all(r, e, owner, gone)?;
-    let (h, c) = swap_route(r, e, owner, s, invalid, violated, went, 0, came)?;
+    let (h, c) = swap_route(r, e, owner, route, went, 0, came)?;
     Ok(Heads {
         came: c,
         went: h,
@@ -161,22 +162,14 @@ pub fn put(
 {
     let mut all = [0u16; Plan::ENTRIES];
     let snap = snapshot(entries, plan, expected, owner, &mut all);
-    let valid = snap.valid;
-    if crowded(&r[..], owner, valid) {
+    if crowded(&r[..], owner, snap.valid) {
         return Err(Refusal::NoRoom);
     }
-    let invalid = snap.invalid as u16;
-    let violated = snap.violations as u16;
-    let heads = put_stops(
-        r,
-        e,
-        owner,
-        &all[..valid],
-        invalid,
-        violated,
-        came,
-        went,
-        gone,
-    )?;
+    let route = Route {
+        stops: &all[..snap.valid],
+        invalid: snap.invalid as u16,
+        violated: snap.violations as u16,
+    };
+    let heads = put_stops(r, e, owner, route, came, went, gone)?;
     Ok(heads)
 }

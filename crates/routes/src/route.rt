@@ -48,15 +48,23 @@ fn settle(r: &mut [u16], o: usize, s: &[u16])
     shift(&mut r[0..STOPS], o + 1, shift_of(t - f, s.len()));
 }
 
-// The owner's route becomes the stops s, with their counts beside them.
-pub fn put_route(r: &mut [u16], owner: Owner, s: &[u16], invalid: u16, violated: u16)
-    requires { (length r.old ≡ routes_length) × Lies r.old owner.0 (length s.now) }
-    ensures { RoutesTurn r.old owner.0 s.now invalid violated r.new }
+// A route that an owner gets: its stops, and with how many invalid entries and violations.
+#[derive(Clone, Copy)]
+pub struct Route<'a> {
+    pub stops: &'a [u16],
+    pub invalid: u16,
+    pub violated: u16,
+}
+
+// The owner gets the route.
+pub fn put_route(r: &mut [u16], owner: Owner, route: Route)
+    requires { (length r.old ≡ routes_length) × Lies r.old owner.0 (length route.stops.now) }
+    ensures { RoutesTurn r.old owner.0 route.entry.stops.now route.entry.invalid route.entry.violated r.new }
 {
     let o = owner.0 as usize;
-    settle(r, o, s);
-    r[INVALID + o] = invalid;
-    r[VIOLATED + o] = violated;
+    settle(r, o, route.stops);
+    r[INVALID + o] = route.invalid;
+    r[VIOLATED + o] = route.violated;
 }
 
 // Nobody has a route, and nobody waits.
