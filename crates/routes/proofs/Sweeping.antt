@@ -3,12 +3,12 @@ use Rattle.std.proofs.Common.{◌≡◌, ℕ, ◌+◌, ◌/◌, ◌%◌, ◌<◌
 use Rattle.rules.specs.Sizes.{most_jobs}
 use Rattle.rules.proofs.Ranges.{clash}
 use Rattle.rules.specs.declared.Senseless.{Senseless}
-use Rattle.edges.specs.Edges.{Model, Holds, has_edge, count_of, add_answer, remove_answer, Adds, Removes}
+use Rattle.edges.specs.Edges.{Model, has_edge, count_of, add_answer, remove_answer, Adds, Removes}
 use Rattle.edges.specs.declared.Added.{Added}
 use Rattle.edges.specs.declared.Added.TheVariants as added
 use Rattle.edges.specs.declared.Removed.{Removed}
 use Rattle.edges.specs.declared.Removed.TheVariants as removed
-use Rattle.routes.specs.Turning.{head, turn_one, turns, Ready, turn_all, heads_all, ReadyAll, Turns}
+use Rattle.routes.specs.Turning.{head, turn_one, turns, turn_all, heads_all, ReadyAll, Turned, Turns}
 use Rattle.std.specs.Result.{IsErr, is_err}
 use Rattle.words.proofs.Rows.{row_cons, row_none}
 
@@ -24,38 +24,35 @@ never_ok q = err_never refl q
 
 -- ── one ──
 
--- whatever the model, x turns (t) or does not
-abbrev pub Known : Bool → ℕ → List ℕ → List ℕ → Bool → Type 0
-Known b x e e' t = (m : Model) → Holds e m → Ready b m x → (turns b m x ≡ t) × Holds e' (turn_one b m x)
-
-module _ {b : Bool} {x : ℕ} {e e' heads : List ℕ} {h : ℕ} where
-  pub one_still : Known b x e e' false → Turns b (x ∷ []) e e' heads heads h (Ok h)
+module _ {b : Bool} {x : ℕ} {e e' : List ℕ} {r : Result Bool Senseless} (T : Turned b x e e' r) {heads : List ℕ} {h : ℕ} where
+  one_still : r ≡ Ok false → Turns b (x ∷ []) e e' heads heads h (Ok h)
   unfolding turn_all heads_all ReadyAll
-  one_still k = record {
+  one_still z = record {
     short = λ i q. omega (arith, ok_same q);
-    is = λ m H R. let (t, J) = k m H R.0 in record {
+    is = λ m H R. let (q, J) = T m H R.0 in let t = ok_same (sym q ∙ z) in record {
       upto = rw t (ap Ok (sym (add-zero h)));
       holds = J;
       listed = rw (t, add-zero) (sym (append-nil (take h heads)));
     };
   }
 
-  pub one_turned : Known b x e e' true → h < length heads → Turns b (x ∷ []) e e' heads (set heads h (head x)) h (Ok (h + 1))
+  one_turned : r ≡ Ok true → h < length heads → Turns b (x ∷ []) e e' heads (set heads h (head x)) h (Ok (h + 1))
   unfolding turn_all heads_all ReadyAll
-  one_turned k l = record {
+  one_turned z l = record {
     short = λ i q. omega (arith, ok_same q);
-    is = λ m H R. let (t, J) = k m H R.0 in record { upto = rw t; holds = J; listed = rw (t, add-one) (take-suc-set heads h (head x) l) };
+    is = λ m H R. let (q, J) = T m H R.0 in let t = ok_same (sym q ∙ z) in
+        record { upto = rw t; holds = J; listed = rw (t, add-one) (take-suc-set heads h (head x) l) };
   }
 
-  one_never : {r : Result ℕ Senseless} → IsErr r → ((m : Model) → Holds e m → Ready b m x → ⊥) → Turns b (x ∷ []) e e' heads heads h r
+  one_never : {z : Senseless} {r' : Result ℕ Senseless} → r ≡ Err z → IsErr r' → Turns b (x ∷ []) e e' heads heads h r'
   unfolding ReadyAll
-  one_never j k = record { short = λ i q. err_never j q; is = λ m H R. absurd (k m H R.0) }
+  one_never z k = record { short = λ i q. err_never k q; is = λ m H R. never_ok (sym z ∙ (T m H R.0).0) }
 
 -- ── what the edges answer ──
 
-far : (b : Bool) (x : ℕ) (e : List ℕ) → most_jobs ≤ x / most_jobs → Known b x e e false
-far true x e k m H R = (rw (le-ltb (x / most_jobs) most_jobs k), rw (le-ltb (x / most_jobs) most_jobs k) H)
-far false x e k m H R = (rw (le-ltb (x / most_jobs) most_jobs k), rw (le-ltb (x / most_jobs) most_jobs k) H)
+pub turned_far : (b : Bool) (x : ℕ) (e : List ℕ) → most_jobs ≤ x / most_jobs → Turned b x e e (Ok false)
+turned_far true x e k m H R = (rw (le-ltb (x / most_jobs) most_jobs k), rw (le-ltb (x / most_jobs) most_jobs k) H)
+turned_far false x e k m H R = (rw (le-ltb (x / most_jobs) most_jobs k), rw (le-ltb (x / most_jobs) most_jobs k) H)
 
 -- whether it appeared or vanished
 abbrev pub appeared : Added → Bool
@@ -67,72 +64,43 @@ vanished removed.Vanished = true
 vanished removed.Lessened = false
 vanished removed.Absent = false
 
-add_tells : (b : Bool) → not b ≡ appeared (cond b added.Counted added.Appeared)
-add_tells true = refl
-add_tells false = refl
-
-remove_tells : (b c : Bool) → b && not c ≡ vanished (cond b (cond c removed.Lessened removed.Vanished) removed.Absent)
-remove_tells true true = refl
-remove_tells true false = refl
-remove_tells false c = refl
-
-module _ (x : ℕ) {e e' : List ℕ} (near : x / most_jobs < most_jobs) where
-  put_one : {r : Result Added Senseless} {a : Added} → Adds e (x / most_jobs) (x % most_jobs) e' r → r ≡ Ok a → Known true x e e' (appeared a)
-  unfolding add_answer
-  put_one A z m H R =
-      let (q, J) = A m H (R (lt-ltb (x / most_jobs) most_jobs near)) in
-      (rw (lt-ltb (x / most_jobs) most_jobs near) (add_tells (has_edge m (x / most_jobs) (x % most_jobs)) ∙ ap appeared (ok_same (sym q ∙ z))), rw (lt-ltb (x / most_jobs) most_jobs near) J)
-
-  put_none : {r : Result Added Senseless} {z : Senseless} → Adds e (x / most_jobs) (x % most_jobs) e' r → r ≡ Err z
-      → (m : Model) → Holds e m → Ready true m x → ⊥
-  put_none A z m H R = never_ok (sym z ∙ (A m H (R (lt-ltb (x / most_jobs) most_jobs near))).0)
-
-  take_one : {r : Result Removed Senseless} {a : Removed} → Removes e (x / most_jobs) (x % most_jobs) e' r → r ≡ Ok a
-      → Known false x e e' (vanished a)
-  unfolding remove_answer
-  take_one A z m H R =
-      let (q, J) = A m H in
-      let b = remove_tells (has_edge m (x / most_jobs) (x % most_jobs)) (ltb 1 (count_of m (x / most_jobs) (x % most_jobs))) in
-      (rw (lt-ltb (x / most_jobs) most_jobs near) (b ∙ ap vanished (ok_same (sym q ∙ z))), rw (lt-ltb (x / most_jobs) most_jobs near) J)
-
-  take_none : {r : Result Removed Senseless} {z : Senseless} → Removes e (x / most_jobs) (x % most_jobs) e' r → r ≡ Err z
-      → (m : Model) → Holds e m → Ready false m x → ⊥
-  take_none A z m H R = never_ok (sym z ∙ (A m H).0)
-
-module _ {b : Bool} {x : ℕ} {e : List ℕ} where
-  pub turn_far : {heads : List ℕ} {h : ℕ} → most_jobs ≤ x / most_jobs → Turns b (x ∷ []) e e heads heads h (Ok h)
-  turn_far k = one_still (far b x e k)
-
--- it turned if it appeared, or vanished
-module _ {b : Bool} (x : ℕ) {e e' : List ℕ} (near : x / most_jobs < most_jobs) {t : Bool} where
-  pub turn_added : {r : Result Added Senseless} {a : Added} → Adds e (x / most_jobs) (x % most_jobs) e' r → b ≡ true → r ≡ Ok a
-      → appeared a ≡ t → Known b x e e' t
-  turn_added A more z q = rw (more, ← q) (put_one x near A z)
-
-  pub turn_removed : {r : Result Removed Senseless} {a : Removed} → Removes e (x / most_jobs) (x % most_jobs) e' r → b ≡ false → r ≡ Ok a
-      → vanished a ≡ t → Known b x e e' t
-  turn_removed A less z q = rw (less, ← q) (take_one x near A z)
-
-pub not_appeared : (a : Added) → (a ≡ added.Appeared → ⊥) → appeared a ≡ false
-not_appeared added.Appeared n = absurd (n refl)
-not_appeared added.Counted n = refl
-
 pub not_vanished : (a : Removed) → (a ≡ removed.Vanished → ⊥) → vanished a ≡ false
 not_vanished removed.Vanished n = absurd (n refl)
 not_vanished removed.Lessened n = refl
 not_vanished removed.Absent n = refl
 
-module _ {b : Bool} {x : ℕ} {e e' : List ℕ} (near : x / most_jobs < most_jobs) where
-  module _ {heads : List ℕ} {h : ℕ} where
-    pub turn_unadded : {r : Result Added Senseless} {z : Senseless} (r' : Result ℕ Senseless) → Adds e (x / most_jobs) (x % most_jobs) e' r
-        → b ≡ true → r ≡ Err z → IsErr r' → Turns b (x ∷ []) e e' heads heads h r'
-    turn_unadded r' A more z k = rw more (one_never k (put_none x near A z))
+add_tells : (b : Bool) → appeared (cond b added.Counted added.Appeared) ≡ not b
+add_tells true = refl
+add_tells false = refl
 
-    pub turn_unremoved : {r : Result Removed Senseless} {z : Senseless} (r' : Result ℕ Senseless) → Removes e (x / most_jobs) (x % most_jobs) e' r
-        → b ≡ false → r ≡ Err z → IsErr r' → Turns b (x ∷ []) e e' heads heads h r'
-    turn_unremoved r' A less z k = rw less (one_never k (take_none x near A z))
+remove_tells : (b c : Bool) → vanished (cond b (cond c removed.Lessened removed.Vanished) removed.Absent) ≡ b && not c
+remove_tells true true = refl
+remove_tells true false = refl
+remove_tells false c = refl
 
-pub ruleset turning = (rules, turn_far)
+module _ (x : ℕ) {e e' : List ℕ} (near : x / most_jobs < most_jobs) where
+  module _ {r : Result Added Senseless} (A : Adds e (x / most_jobs) (x % most_jobs) e' r) {b : Bool} (more : b ≡ true) where
+    pub turned_in : {a : Added} {t : Bool} → r ≡ Ok a → appeared a ≡ t → Turned b x e e' (Ok t)
+    unfolding add_answer
+    turned_in z w = rw more (λ m H R.
+        let n = lt-ltb (x / most_jobs) most_jobs near in
+        let (q, J) = A m H (R n) in
+        (rw n (ap Ok (sym w ∙ ap appeared (ok_same (sym z ∙ q)) ∙ add_tells (has_edge m (x / most_jobs) (x % most_jobs)))), rw n J))
+
+    pub unturned_in : {z : Senseless} (r' : Result Bool Senseless) → r ≡ Err z → Turned b x e e' r'
+    unturned_in r' z = rw more (λ m H R. never_ok (sym z ∙ (A m H (R (lt-ltb (x / most_jobs) most_jobs near))).0))
+
+  module _ {r : Result Removed Senseless} (A : Removes e (x / most_jobs) (x % most_jobs) e' r) {b : Bool} (less : b ≡ false) where
+    pub turned_out : {a : Removed} {t : Bool} → r ≡ Ok a → vanished a ≡ t → Turned b x e e' (Ok t)
+    unfolding remove_answer
+    turned_out z w = rw less (λ m H R.
+        let n = lt-ltb (x / most_jobs) most_jobs near in
+        let (q, J) = A m H in
+        let c = remove_tells (has_edge m (x / most_jobs) (x % most_jobs)) (ltb 1 (count_of m (x / most_jobs) (x % most_jobs))) in
+        (rw n (ap Ok (sym w ∙ ap vanished (ok_same (sym z ∙ q)) ∙ c)), rw n J))
+
+    pub unturned_out : {z : Senseless} (r' : Result Bool Senseless) → r ≡ Err z → Turned b x e e' r'
+    unturned_out r' z = rw less (λ m H R. never_ok (sym z ∙ (A m H).0))
 
 -- ── all of a list ──
 
@@ -175,9 +143,9 @@ module _ {b : Bool} {x : ℕ} {l e e₁ heads heads₁ : List ℕ} {h : ℕ} whe
         };
   }
 
-  turns_bad : {z : Senseless} {r : Result ℕ Senseless} → Turns b (x ∷ []) e e₁ heads heads₁ h (Err z) → IsErr r → Turns b (x ∷ l) e e₁ heads heads₁ h r
+  turns_bad : {r : Result ℕ Senseless} → Turns b (x ∷ []) e e₁ heads heads₁ h r → IsErr r → Turns b (x ∷ l) e e₁ heads heads₁ h r
   unfolding ReadyAll
-  turns_bad T k = record { short = λ i q. err_never k q; is = λ m H R. never_ok (T.is m H (R.0, tt)).upto }
+  turns_bad T k = record { short = λ i q. err_never k q; is = λ m H R. err_never k (T.is m H (R.0, tt)).upto }
 
 -- once the rest of the list is turned, all of it is
 pub record Sweeping (b : Bool) (s e₀ heads₀ : List ℕ) (at : ℕ) (e heads : List ℕ) (h i : ℕ) : Type 0 where
@@ -188,17 +156,23 @@ pub sweep_none : (b : Bool) (s e heads : List ℕ) (at : ℕ) → Sweeping b s e
 sweep_none b s e heads at = record { few = omega arith; rest = λ e' heads' r T. T }
 
 module _ {b : Bool} {s e₀ heads₀ : List ℕ} {at : ℕ} {e heads : List ℕ} {h i : ℕ} (W : Sweeping b s e₀ heads₀ at e heads h i) where
-  module _ {e₁ heads₁ : List ℕ} {r : Result ℕ Senseless} (T : Turns b (get_or s i 0 ∷ []) e e₁ heads heads₁ h r) (l : i < length s) where
-    pub sweep_on : {k : ℕ} → r ≡ Ok k → Sweeping b s e₀ heads₀ at e₁ heads₁ k (i + 1)
-    sweep_on {k} q = record {
-      few = let a = T.short k q in let c = W.few in omega arith;
-      rest = λ e' heads' r U. W.rest e' heads' r (rw (row_cons s i l) (turns_then (rw q at T) U));
+  module _ {e₁ : List ℕ} {r : Result Bool Senseless} (T : Turned b (get_or s i 0) e e₁ r) (l : i < length s) where
+    sweep_on : {heads₁ : List ℕ} {k : ℕ} → Turns b (get_or s i 0 ∷ []) e e₁ heads heads₁ h (Ok k) → Sweeping b s e₀ heads₀ at e₁ heads₁ k (i + 1)
+    sweep_on {k = k} U = record {
+      few = let a = U.short k refl in let c = W.few in omega arith;
+      rest = λ e' heads' r V. W.rest e' heads' r (rw (row_cons s i l) (turns_then U V));
     }
 
-    pub sweep_bad : {z : Senseless} (r' : Result ℕ Senseless) → r ≡ Err z → IsErr r' → Turns b s e₀ e₁ heads₀ heads₁ at r'
-    sweep_bad r' q k = W.rest e₁ heads₁ r' (rw (row_cons s i l) (turns_bad (rw q at T) k))
+    pub sweep_same : r ≡ Ok false → Sweeping b s e₀ heads₀ at e₁ heads h (i + 1)
+    sweep_same q = sweep_on (one_still T q)
+
+    pub sweep_turned : r ≡ Ok true → h < length heads → Sweeping b s e₀ heads₀ at e₁ (set heads h (head (get_or s i 0))) (h + 1) (i + 1)
+    sweep_turned q k = sweep_on (one_turned T q k)
+
+    pub sweep_bad : {z : Senseless} (r' : Result ℕ Senseless) → r ≡ Err z → IsErr r' → Turns b s e₀ e₁ heads₀ heads at r'
+    sweep_bad r' q k = W.rest e₁ heads r' (rw (row_cons s i l) (turns_bad (one_never T q k) k))
 
   pub sweep_done : length s ≤ i → Turns b s e₀ e heads₀ heads at (Ok h)
   sweep_done l = W.rest e heads (Ok h) (rw (row_none s i l) (turns_none b e heads h))
 
-pub ruleset sweeping = (rules, sweep_none, sweep_on, sweep_bad, sweep_done)
+pub ruleset sweeping = (rules, sweep_none, sweep_done)

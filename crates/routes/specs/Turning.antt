@@ -31,6 +31,10 @@ abbrev pub Ready : Bool → Model → ℕ → Type 0
 Ready true m x = is_edge x ≡ true → Room m (tail x) (head x)
 Ready false m x = Unit
 
+-- x is turned, and the answer is whether it appears or vanishes
+abbrev pub Turned : Bool → ℕ → List ℕ → List ℕ → Result Bool Senseless → Type 0
+Turned b x e e' r = (m : Model) → Holds e m → Ready b m x → (r ≡ Ok (turns b m x)) × Holds e' (turn_one b m x)
+
 unfoldable pub turn_all : Bool → Model → List ℕ → Model
 turn_all b m [] = m
 turn_all b m (x ∷ l) = turn_all b (turn_one b m x) l

@@ -1,34 +1,27 @@
 // An old route's edges give way to a new route's, through the edges' counts.
-ghost use Rattle.std.specs.Prelude.{◌≡◌, ◌+◌, ◌<◌, ◌≤◌, [], ◌∷◌, length};
+ghost use Rattle.std.specs.Prelude.{◌≡◌, ◌+◌, ◌≤◌, length};
 ghost use Rattle.rules.specs.Sizes.{most_entries, edges_length};
-ghost use Rattle.routes.specs.Turning.{Turns, Parts};
+ghost use Rattle.routes.specs.Turning.{Turned, Turns, Parts};
 ghost use Rattle.routes.specs.Promises.{EdgesTurn};
 
 use crate::difference::{JOBS, differences, links_of, same_back, same_front};
 use edges::{Added, Removed};
 use rules::{Job, Plan, Senseless};
 
-// One edge more or less; if it appears or vanishes its head is listed at h. The answer is how far the heads reach then. A number that is no
-// edge is passed over.
-fn turn(e: &mut [u16], x: u32, more: bool, heads: &mut [u16], h: usize) -> Result<usize, Senseless>
-    requires { (length e.old ≡ edges_length) × (h < length heads.old) }
-    ensures { Turns more (x ∷ []) e.old e.new heads.old heads.new h result }
+// One edge more or less, and whether it appears or vanishes. A number that is no edge is passed over.
+fn turn(e: &mut [u16], x: u32, more: bool) -> Result<bool, Senseless>
+    requires { length e.old ≡ edges_length }
+    ensures { Turned more x e.old e.new result }
 {
     let from = x / JOBS;
-    if JOBS <= from {
-        return Ok(h);
-    }
     let to = x % JOBS;
-    let turned = if more {
-        matches!(edges::add(e, Job(from), Job(to))?, Added::Appeared)
-    } else {
-        matches!(edges::remove(e, Job(from), Job(to))?, Removed::Vanished)
-    };
-    if !turned {
-        return Ok(h);
+    if JOBS <= from {
+        return Ok(false);
     }
-    heads[h] = to as u16;
-    Ok(h + 1)
+    if more {
+        return Ok(matches!(edges::add(e, Job(from), Job(to))?, Added::Appeared));
+    }
+    Ok(matches!(edges::remove(e, Job(from), Job(to))?, Removed::Vanished))
 }
 
 // The edges s, one after the other, and how far the heads of those that appear or vanish reach.
@@ -44,7 +37,10 @@ fn turn_all(
 {
     let mut h = at;
     for &x in s {
-        h = turn(e, x, more, heads, h)?;
+        if turn(e, x, more)? {
+            heads[h] = (x % JOBS) as u16;
+            h += 1;
+        }
     }
     Ok(h)
 }
