@@ -340,8 +340,8 @@ turning_done {e} {st} {heads} {n} {i} T h = record {
     none : (A : ℕ → Type 0) (b : ℕ) → memb b (drop i heads) ≡ true → A b
     none A b y = clash (rw (row_none heads i h) at y) refl
 
-pub judge_lined : {e st vs : List ℕ} {n : ℕ} {r : Bool} {o : List ℕ} → Lines e n r o → Judges e st vs n r
-judge_lined {n} {r} {o} L = record { told = λ m H w g rank S. go m r (L.is m H w) }
+pub judge_lined : {e st vs : List ℕ} {n : ℕ} {r : Bool} → (o : List ℕ) × Lines e n r o → Judges e st vs n r
+judge_lined {n} {r} (o, L) = record { told = λ m H w g rank S. go m r (L.is m H w) }
   where
     go : (m : Model) (r : Bool) → LinedUp m n o r → Verdict m n r
     go m true y = (take n o, y)

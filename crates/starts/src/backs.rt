@@ -2,9 +2,10 @@
 // later than a predecessor of that head.
 #![tactic(auto, using(crate::proofs::Backed::backing))]
 
-ghost use Rattle.std.specs.Prelude.{◌≡◌, ◌<◌, ◌≤◌, [], ◌∷◌, length};
+ghost use Rattle.std.specs.Prelude.{◌≡◌, ℕ, ◌<◌, ◌≤◌, List, [], ◌∷◌, length};
 ghost use Rattle.rules.specs.Lists.{keep};
 ghost use Rattle.rules.specs.Sizes.{edges_length, most_jobs};
+ghost use Rattle.starts.specs.Lines.{Lines};
 ghost use Rattle.starts.specs.Queues.{Gains};
 ghost use Rattle.starts.specs.Backs.{soon, Searches, Lates, Looks, Judges};
 
@@ -114,20 +115,28 @@ fn look(e: &[u16], starts: &[u64], b: u16, n: usize, left: usize) -> Turned
     search(e, starts, k, top, n, left)
 }
 
+// Whether the n jobs have a line-up.
+fn has_line_up(e: &[u16], n: usize) -> bool
+    requires { (length e.now ≡ edges_length) × (n ≤ most_jobs) }
+    ensures { (o : List ℕ) × Lines e.now n result o }
+{
+    let mut order = [0u16; Plan::JOBS];
+    line_up(e, n, &mut order)
+}
+
 // The verdict after edges with these heads appeared in a graph that had a line-up and these starts: is there a line-up?
 pub fn judge(e: &[u16], starts: &[u64], heads: &[u16], n: usize) -> bool
     requires { (length e.now ≡ edges_length) × (n ≤ length starts.now) × (n ≤ most_jobs) }
     ensures { Judges e.now starts.now heads.now n result }
 {
-    let mut order = [0u16; Plan::JOBS];
     if HEADS < heads.len() {
-        return line_up(e, n, &mut order);
+        return has_line_up(e, n);
     }
     let mut left = STEPS;
     for &b in heads {
         match look(e, starts, b, n, left) {
             Turned::Back => return false,
-            Turned::Tired => return line_up(e, n, &mut order),
+            Turned::Tired => return has_line_up(e, n),
             Turned::Free(x) => left = x,
         }
     }
