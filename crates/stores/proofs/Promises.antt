@@ -23,6 +23,8 @@ use Rattle.routes.specs.Desks.{edges_of, routes_of}
 use Rattle.times.specs.Words.{span_words, time_words}
 use Rattle.stores.specs.Words.{base_words}
 use Rattle.std.specs.Prelude.{Result, Ok, Err}
+use Rattle.std.specs.Result.{IsErrAnd}
+use Rattle.std.proofs.lemmas.Result.{err_from_is_err_and}
 use Rattle.stores.specs.Headers.{open_of, counts_of}
 use Rattle.stores.specs.Promise.{Slices, lent_of, call_of, Held, Stands, StandsFor, holding, after, answer_of, Decided, Promise, refused_by, later_of, Heeds}
 use Rattle.stores.proofs.Openings.{open_short, open_none, open_some}
@@ -149,6 +151,12 @@ module _ (a : Ask) (s s' : Slices) (out out' : List ℕ) (r : Reply) where
       go t k (pass e) = f e t
       go none k (fail e) = g e (k e)
       go (some p) k (fail e) = h e p (k e)
+
+-- ── the exit of a `?` ──
+
+-- what is answered is the refusal that the call before told
+pub exit_err : {A : Type 0} {k : Refusal} {r : Result A Refusal} → IsErrAnd r (λ y. y ≡ k) → r ≡ Err k
+exit_err {r = r} e = let p = err_from_is_err_and r e in p.1 ∙ ap Err p.2
 
 -- ── by what the header says ──
 

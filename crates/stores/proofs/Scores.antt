@@ -6,7 +6,6 @@ use mathlib.Core.Bool.{Bool, cond, false, not, true}
 use mathlib.Core.List.{List, ◌∷◌}
 use lib.ListN.{get_or, take}
 use lib.Seq.{get_or-take}
-use native.Mathlib.Nat.{add-zero}
 use lib.Dec.{eqb}
 use borrow.Author.Tests.{lt-ltb, le-ltb}
 use Rattle.rules.specs.declared.Score.{Score}
@@ -32,6 +31,10 @@ never e = absurd (let z : ◌≡◌ {A = ℕ} 0 1 = cc in omega arith)
 
 -- ── of any words ──
 
+cycle_few : (b : Bool) (n : ℕ) → cond b n 0 ≤ n
+cycle_few true n = omega arith
+cycle_few false n = omega arith
+
 pub penal_of : {base routes f g : List ℕ} {n m' a b : ℕ} → get_or base 4 0 < 2 ^ 32 → Faults routes f → Summed f a → Assigned routes g
     → Tallied g m' b → m' ≡ n → n ≤ most_jobs → Penal base routes n (get_or base 4 0 + a + b)
 unfolding penalty_in
@@ -48,23 +51,14 @@ module _ {base routes times : List ℕ} {n span : ℕ} (es : span ≡ makespan_i
   unfolding scored_in
   scored_wide k = record { is = λ m H. rw (← es, lt-ltb limit _ k); twelve = λ k e. cc; within = tt }
 
-  module _ {x : ℕ} (p : Penal base (take routes_length routes) n x) (few : n ≤ most_jobs) (wide : span ≤ limit) {b : Bool}
-      (eb : b ≡ cyclic_in times) where
-    pub scored_cyclic : {s : Score} → b ≡ true → s ≡ score_of (x + n) span → ScoredBy base routes times n (Ok s)
-    unfolding scored_in
-    scored_cyclic e q = record {
-      is = λ m H. rw (← es, le-ltb limit _ wide, ← eb, e, ← p.is m H) (ap Ok q);
-      twelve = λ k e. never e;
-      within = rw q (within_score (x + n) _ (let z = p.few in omega arith) wide);
-    }
-
-    pub scored_calm : {s : Score} → b ≡ false → s ≡ score_of x span → ScoredBy base routes times n (Ok s)
-    unfolding scored_in
-    scored_calm e q = record {
-      is = λ m H. rw (← es, le-ltb limit _ wide, ← eb, e, ← p.is m H, add-zero) (ap Ok q);
-      twelve = λ k e. never e;
-      within = rw q (within_score x _ (let z = p.few in omega arith) wide);
-    }
+  pub scored_told : {x y : ℕ} → Penal base (take routes_length routes) n x → n ≤ most_jobs → span ≤ limit → {b : Bool} → b ≡ cyclic_in times
+      → y ≡ cond b n 0 → {s : Score} → s ≡ score_of (x + y) span → ScoredBy base routes times n (Ok s)
+  unfolding scored_in
+  scored_told {x} {y} p few wide {b} eb c q = record {
+    is = λ m H. rw (← es, le-ltb limit _ wide, ← eb, ← c, ← p.is m H) (ap Ok q);
+    twelve = λ k e. never e;
+    within = rw q (within_score (x + y) _ (let z = p.few in let k = cycle_few b n in omega arith) wide);
+  }
 
 -- ── of a store that stands for a plan ──
 

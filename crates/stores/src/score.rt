@@ -15,7 +15,7 @@ use rules::{Plan, Refusal, Score};
 use times::{is_cyclic, makespan};
 
 // A makespan of more no plan has.
-const LIMIT: u64 = 1125899906842624;
+const LIMIT: u64 = 1 << 50;
 
 // The sum of a row.
 fn sum_of(s: &[u16]) -> u64
@@ -61,10 +61,12 @@ pub fn score_of(base: &[u32], routes: &[u16], times: &[u64], plan: Plan) -> Resu
     if LIMIT < span {
         return Err(Refusal::BadStore);
     }
-    if is_cyclic(times) {
-        return Ok(Score::of(penalty + u64::from(plan.jobs), span));
-    }
-    Ok(Score::of(penalty, span))
+    let cycle = if is_cyclic(times) {
+        u64::from(plan.jobs)
+    } else {
+        0
+    };
+    Ok(Score::of(penalty + cycle, span))
 }
 
 // Score and match count.

@@ -1,14 +1,12 @@
 use mathlib.Core.Path.{refl}
-use Rattle.std.proofs.lemmas.Result.{err_from_is_err_and}
+use Rattle.stores.proofs.Promises.{exit_err}
 use Rattle.refresh.proofs.Showing.{verdict_closed, verdict_few, verdict_shown}
 use Rattle.refresh.proofs.verdict.verdict.Goals as goal
 
 -- `verdict`: by what the header says, then by the room. Assumes nothing.
 
 pub returns-in_err-plan : goal.returns-in_err-plan
-returns-in_err-plan c =
-    let p = err_from_is_err_and c.from_residual.result c.from_residual.ensures.1 in
-    rw (p.1, p.2) (verdict_closed _ _ c.in_err-plan.ensures.says refl)
+returns-in_err-plan c = rw (exit_err c.from_residual.ensures.1) (verdict_closed _ _ c.in_err-plan.ensures.says refl)
 
 pub returns-then-out-n : goal.returns-then-out-n
 returns-then-out-n c = verdict_few _ _ c.in_ok-plan.ensures.says refl c.if-out-n.true

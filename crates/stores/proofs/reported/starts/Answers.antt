@@ -1,16 +1,14 @@
 use mathlib.Core.Path.{refl, sym, ◌∙◌}
 use native.Mathlib.Omega.{arith}
 use lib.Seq.{length-take-le}
-use Rattle.std.proofs.lemmas.Result.{err_from_is_err_and}
+use Rattle.stores.proofs.Promises.{exit_err}
 use Rattle.stores.proofs.Readings.{starts_closed, starts_few, starts_all, starts_long}
 use Rattle.stores.proofs.reported.starts.Goals as goal
 
 -- `starts`: by what the header says, then by the room. Assumes nothing.
 
 pub returns-in_err-plan : goal.returns-in_err-plan
-returns-in_err-plan c =
-    let p = err_from_is_err_and c.from_residual.result c.from_residual.ensures.1 in
-    rw (p.1, p.2) (starts_closed _ _ c.in_err-plan.ensures.says refl)
+returns-in_err-plan c = rw (exit_err c.from_residual.ensures.1) (starts_closed _ _ c.in_err-plan.ensures.says refl)
 
 pub returns-then-out-n : goal.returns-then-out-n
 returns-then-out-n c = starts_few _ _ c.in_ok-plan.ensures.says refl c.if-out-n.true

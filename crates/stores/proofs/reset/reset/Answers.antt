@@ -8,22 +8,14 @@ use Rattle.stores.proofs.reset.reset.Goals as goal
 -- `reset`: by the lengths, whatever the store holds. Assumes nothing.
 
 pub returns-then-short : goal.returns-then-short
-returns-then-short c =
-    let the_short = c.short in
-    let the_if1 = c.if-short in
-    reset_short _ (sym the_short.ensures ∙ the_if1.true)
+returns-then-short c = reset_short _ (sym c.short.ensures ∙ c.if-short.true)
 
 pub bounds-base-0 : goal.bounds-base-0
 bounds-base-0 c =
-    let the_short = c.short in
-    let the_if1 = c.if-short in
     let x = c.args in
     let s = slices x.base.now x.spans.now x.edges.now x.routes.now x.times.now in
-    let l = long (lent_of s) (sym the_short.ensures ∙ the_if1.false) in
+    let l = long (lent_of s) (sym c.short.ensures ∙ c.if-short.false) in
     omega arith
 
 pub returns : goal.returns
-returns c =
-    let the_short = c.short in
-    let the_if1 = c.if-short in
-    reset_done _ (sym the_short.ensures ∙ the_if1.false)
+returns c = reset_done _ (sym c.short.ensures ∙ c.if-short.false)

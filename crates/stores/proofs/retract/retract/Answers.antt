@@ -1,14 +1,12 @@
 use mathlib.Core.Path.{refl}
-use Rattle.std.proofs.lemmas.Result.{err_from_is_err_and}
+use Rattle.stores.proofs.Promises.{exit_err}
 use Rattle.stores.proofs.Retracting.{retract_closed, retract_nobody, retract_waits, retract_bad}
 use Rattle.stores.proofs.retract.retract.Goals as goal
 
 -- `retract`: by what the header says, then by the owner. Assumes nothing.
 
 pub returns-in_err-plan : goal.returns-in_err-plan
-returns-in_err-plan c =
-    let p = err_from_is_err_and c.from_residual.result c.from_residual.ensures.1 in
-    rw (p.1, p.2) (retract_closed _ _ c.in_err-plan.ensures.says refl)
+returns-in_err-plan c = rw (exit_err c.from_residual.ensures.1) (retract_closed _ _ c.in_err-plan.ensures.says refl)
 
 pub returns-then-not-has_owner : goal.returns-then-not-has_owner
 returns-then-not-has_owner c =
@@ -16,8 +14,7 @@ returns-then-not-has_owner c =
 
 pub returns-in_err-retract : goal.returns-in_err-retract
 returns-in_err-retract c =
-    let p = err_from_is_err_and c.from_residual-in_err-retract.result c.from_residual-in_err-retract.ensures.1 in
-    rw (p.1, p.2) (retract_bad _ _ c.in_ok-plan.ensures.says refl c.has_owner.ensures c.if-not-has_owner.false c.in_err-retract.ensures refl)
+    rw (exit_err c.from_residual-in_err-retract.ensures.1) (retract_bad _ _ c.in_ok-plan.ensures.says refl c.has_owner.ensures c.if-not-has_owner.false c.in_err-retract.ensures refl)
 
 pub returns : goal.returns
 returns c = retract_waits _ _ c.in_ok-plan.ensures.says refl c.has_owner.ensures c.if-not-has_owner.false c.in_ok-retract.ensures refl

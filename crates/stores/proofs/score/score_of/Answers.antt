@@ -1,43 +1,19 @@
-use native.Mathlib.Omega.{arith}
-use mathlib.Core.Path.{◌∙◌}
-use lib.ListN.{length-take}
-use Rattle.stores.proofs.Scores.{scored_wide, scored_cyclic, scored_calm}
+use mathlib.Core.Bool.{cond}
+use mathlib.Core.Path.{◌≡◌, ◌∙◌}
+use Rattle.stores.proofs.Scores.{scored_wide, scored_told}
 use Rattle.stores.proofs.score.score_of.Goals as goal
+use Rattle.stores.proofs.score.score_of.Goals.{then-is_cyclic, else-is_cyclic}
 
--- `score_of`: by the makespan, then by whether the plan is cyclic. Assumes nothing.
-
-pub slice_bounds-static_penalty-end : goal.slice_bounds-static_penalty-end
-slice_bounds-static_penalty-end c =
-    let l = c.requires.1 in
-    simp length-take (omega arith)
-
-pub static_penalty-penalty-requires : goal.static_penalty-penalty-requires
-static_penalty-penalty-requires c =
-    let l = c.requires.1 in
-    (c.requires.0, simp length-take (omega arith), c.requires.3)
+-- `score_of`: by the makespan; the cycle penalty by whether the plan is cyclic. Assumes nothing.
 
 pub returns-then-span-gt-LIMIT : goal.returns-then-span-gt-LIMIT
-returns-then-span-gt-LIMIT c =
-    let the_makespan = c.makespan-span in
-    let the_if1 = c.if-span-gt-LIMIT in
-    scored_wide the_makespan.ensures the_if1.true
-
-pub returns-then-is_cyclic : goal.returns-then-is_cyclic
-returns-then-is_cyclic c =
-    let the_makespan = c.makespan-span in
-    let the_static_penalty = c.static_penalty-penalty in
-    let the_if1 = c.if-span-gt-LIMIT in
-    let the_is_cyclic = c.is_cyclic in
-    let the_if2 = c.if-is_cyclic in
-    let the_of = c.of in
-    scored_cyclic the_makespan.ensures the_static_penalty.ensures c.requires.3 the_if1.false the_is_cyclic.ensures the_if2.true (the_of.ensures ∙ rw c.from.ensures)
+returns-then-span-gt-LIMIT c = scored_wide c.makespan-span.ensures c.if-span-gt-LIMIT.true
 
 pub returns : goal.returns
 returns c =
-    let the_makespan = c.makespan-span in
-    let the_static_penalty = c.static_penalty-penalty in
-    let the_if1 = c.if-span-gt-LIMIT in
-    let the_is_cyclic = c.is_cyclic in
-    let the_if2 = c.if-is_cyclic in
-    let the_of2 = c.of-2 in
-    scored_calm the_makespan.ensures the_static_penalty.ensures c.requires.3 the_if1.false the_is_cyclic.ensures the_if2.false the_of2.ensures
+    let cycle : c.if-is_cyclic.cycle ≡ cond c.is_cyclic.result c.args.plan.jobs 0 = elim c.if-is_cyclic.branch [
+      | then-is_cyclic w ↦ rw w.if-is_cyclic.true (w.cycle-is ∙ w.from-cycle.ensures)
+      | else-is_cyclic w ↦ rw w.if-is_cyclic.false w.cycle-is
+    ] in
+    scored_told c.makespan-span.ensures c.static_penalty-penalty.ensures c.requires.3 c.if-span-gt-LIMIT.false c.is_cyclic.ensures
+    cycle c.of.ensures
