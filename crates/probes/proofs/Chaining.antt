@@ -1,10 +1,13 @@
 -- Laws of a set of edges: one edge more, the search for one, and the edges of a list in turn. Assumes nothing.
-use Rattle.std.proofs.Common.{◌≡◌, ℕ, zero, suc, ◌+◌, ◌-◌, ◌<◌, ◌≤◌, true, false, cond, ◌&&◌, eqb, ltb, ◌⊎◌, List, [], ◌∷◌, length, get_or, drop, set, replicate, sym, refl, ap, ◌∙◌, inl, inr, le_of_suc-le-suc, not-suc-le-zero, add-one, arith, length-drop, length-set, drop-cons, get_or-set_other, get_or-set_same, rules, ltb-true, eq-eqb, ne_eqb}
+use Rattle.std.specs.Iterator.{MakesProgress, item_count}
+use Rattle.std.proofs.Common.{Bor, Some, ◌≡◌, ℕ, zero, suc, ◌+◌, ◌-◌, ◌<◌, ◌≤◌, true, false, cond, ◌&&◌, eqb, ltb, ◌⊎◌, List, [], ◌∷◌, length, get_or, drop, set, replicate, sym, refl, ap, subst, ◌∙◌, inl, inr, le_of_suc-le-suc, not-suc-le-zero, add-one, arith, length-drop, length-set, drop-cons, get_or-set_other, get_or-set_same, rules, ltb-true, eq-eqb, ne_eqb}
 use lib.ListN.{length-replicate, get_or-replicate}
 use Rattle.rules.specs.Lists.{all_below, memb}
 use Rattle.rules.specs.Moves.{neighbours}
 use Rattle.rules.specs.Sizes.{most_entries, most_jobs}
 use Rattle.rules.proofs.Ranges.{and_true, same}
+use Rattle.probes.specs.Aheads.{Chained, links_left}
+use Rattle.probes.specs.declared.chain.Leads.{Leads}
 use Rattle.probes.specs.Chains.{Falls, Links, Rule, along, always, heads_at, heads_of, holds_of, joined, links_at, nexts_at, set_length}
 
 -- ── where the edges lead ──
@@ -127,33 +130,57 @@ module _ {k u : ℕ} (v : ℕ) {c : List ℕ} (F : Falls k c) (hk : k < most_ent
   pub link_one : (w : ℕ) → w ≡ u → Links always ((u, v) ∷ []) (k + 1) c (set (set (set c (nexts_at + k) (get_or c w 0)) (heads_at + k) v) w (k + 1))
   link_one w e = rw e link_at
 
+-- ── one after the other ──
+
+module _ {s : Leads} (C : Chained s) where
+  pub links_end : s.at ≡ 0 → links_left s ≡ []
+  unfolding links_left along
+  links_end e = rw e
+
+  module _ (more : s.at ≡ 0 → ⊥) where
+    some : 0 < s.at
+    some = omega arith
+
+    pub links_first : {x : ℕ} → x ≡ get_or s.set.now (nexts_at + (s.at - 1)) 0
+        → links_left s ≡ get_or s.set.now (heads_at + (s.at - 1)) 0 ∷ links_left (record s { at = x })
+    unfolding links_left
+    links_first e = links_cons C.falls some C.near ∙ ap (λ (l : List ℕ). get_or s.set.now (heads_at + (s.at - 1)) 0 ∷ l) (ap (links_at s.set.now) (sym e))
+
+    pub links_near : {x : ℕ} → x ≡ get_or s.set.now (nexts_at + (s.at - 1)) 0 → x ≤ most_entries
+    links_near e = let a = links_fall C.falls e some C.near in let b = C.near in omega arith
+
+-- where the edges from u begin
+pub links_begin : (c : Bor (List ℕ)) {a w u : ℕ} → a ≡ get_or c.now w 0 → w ≡ u → links_left (record { set = c; at = a }) ≡ heads_of c.now u
+unfolding links_left
+links_begin c e f = rw (e, f)
+
+-- a call that gave the first of what was left
+pub advances : {S A : Type 0} (can : S → Type 0) (rest : S → List A) {s t : S} {x : A} → can t → rest s ≡ x ∷ rest t
+    → MakesProgress can (item_count rest) s (Some x) t
+advances can rest c e = let shorter = ap length e in search rules
+
 -- ── the search ──
 
--- the search has come to the edge that is written `at`
-pub record Seeking (c : List ℕ) (u v at : ℕ) : Type 0 where
-  pub near : at ≤ most_entries
-  pub is : memb v (links_at c at) ≡ holds_of c u v
+-- the search has come to the edges that are left
+pub record Seeking (c : List ℕ) (u v : ℕ) (l : List ℕ) : Type 0 where
+  pub is : memb v l ≡ holds_of c u v
 
-pub seek_start : {c : List ℕ} (u w v : ℕ) {at : ℕ} → Falls most_entries c → u < most_jobs → w ≡ u → at ≡ get_or c w 0 → Seeking c u v at
-seek_start {c} u w v F h q e = record { near = rw (e, q) (F.first u h); is = rw (e, q) }
+module _ {c : List ℕ} {u v : ℕ} {l : List ℕ} (s : Seeking c u v l) where
+  pub seek_end : l ≡ [] → false ≡ holds_of c u v
+  seek_end e = rw e at s.is
 
-module _ {c : List ℕ} {u v at : ℕ} (s : Seeking c u v at) where
-  pub seek_end : at ≤ 0 → false ≡ holds_of c u v
-  unfolding along
-  seek_end h = let e : at ≡ 0 = omega arith in rw e at s.is
+  module _ {w : ℕ} {l' : List ℕ} (e : l ≡ w ∷ l') where
+    there : memb v (w ∷ l') ≡ holds_of c u v
+    there = rw e at s.is
 
-  module _ (F : Falls most_entries c) (more : 0 < at) where
-    there : memb v (get_or c (heads_at + (at - 1)) 0 ∷ links_at c (get_or c (nexts_at + (at - 1)) 0)) ≡ holds_of c u v
-    there = ap (memb v) (sym (links_cons F more s.near)) ∙ s.is
+    pub seek_hit : w ≡ v → true ≡ holds_of c u v
+    seek_hit q = rw (eq-eqb v w (sym q)) at there
 
-    pub seek_hit : get_or c (heads_at + (at - 1)) 0 ≡ v → true ≡ holds_of c u v
-    seek_hit e = rw (eq-eqb v (get_or c (heads_at + (at - 1)) 0) (sym e)) at there
+    pub seek_next : (w ≡ v → ⊥) → Seeking c u v l'
+    seek_next miss = record { is = rw (ne_eqb v w (λ q. miss (sym q))) at there }
 
-    pub seek_next : (get_or c (heads_at + (at - 1)) 0 ≡ v → ⊥) → {next : ℕ} → next ≡ get_or c (nexts_at + (at - 1)) 0 → Seeking c u v next
-    seek_next miss {next} q = record {
-      near = let a = links_fall F q more s.near in let b = s.near in omega arith;
-      is = rw q (rw (ne_eqb v (get_or c (heads_at + (at - 1)) 0) (λ e. miss (sym e))) at there);
-    }
+pub seek_start : {c : List ℕ} {u v : ℕ} {l : List ℕ} → l ≡ heads_of c u → Seeking c u v l
+seek_start {v = v} e = record { is = ap (memb v) e }
 
 pub ruleset chaining = (rules, first_in, head_in, links_fall, link_one, seek_start, seek_end, seek_hit, seek_next)
 
@@ -165,8 +192,8 @@ below_at k [] i e h = absurd (not-suc-le-zero h)
 below_at k (x ∷ l) zero e h = ltb-true x k (and_true {a = ltb x k} e).0
 below_at k (x ∷ l) (suc i) e h = below_at k l i (and_true {a = ltb x k} e).1 (le_of_suc-le-suc h)
 
-pub job_at : (k : ℕ) (l : List ℕ) (i : ℕ) → all_below k l ≡ true → i + 1 < length l → get_or l i 0 < k
-job_at k l i e h = below_at k l i e (omega arith)
+pub job_before : (k : ℕ) (l : List ℕ) (i : ℕ) → all_below k l ≡ true → i < length l → get_or l (i - 1) 0 < k
+job_before k l i e h = below_at k l (i - 1) e (omega arith)
 
 pub neighbours_at : (l : List ℕ) (i : ℕ) → i + 1 < length l → neighbours (drop i l) ≡ (get_or l i 0, get_or l (i + 1) 0) ∷ neighbours (drop (i + 1) l)
 neighbours_at l i h =
@@ -183,26 +210,34 @@ neighbours_none (a ∷ b ∷ l) h = absurd (omega arith)
 pub neighbours_drop : (l : List ℕ) (i : ℕ) → length l ≤ i + 1 → neighbours (drop i l) ≡ []
 neighbours_drop l i h = neighbours_none (drop i l) (simp length-drop (omega arith))
 
--- the loop: once the rest is linked, all is
+-- the loop: once the rest is linked, all is; i is the place of the next head
 pub record Linking {G : Type 0} (p : G → Rule) (jobs c₀ : List ℕ) (i : ℕ) (c : List ℕ) : Type 0 where
-  pub falls : Falls i c
-  pub rest : (c' : List ℕ) → Links p (neighbours (drop i jobs)) most_entries c c' → Links p (neighbours jobs) most_entries c₀ c'
+  pub within : i ≤ length jobs + 1
+  pub falls : Falls (i - 1) c
+  pub rest : (c' : List ℕ) → Links p (neighbours (drop (i - 1) jobs)) most_entries c c' → Links p (neighbours jobs) most_entries c₀ c'
 
-pub linking_none : {G : Type 0} (p : G → Rule) (jobs c : List ℕ) → Falls 0 c → Linking p jobs c 0 c
-linking_none p jobs c F = record { falls = F; rest = λ c' L. L }
+pub linking_none : {G : Type 0} (p : G → Rule) (jobs c : List ℕ) → Falls 0 c → Linking p jobs c 1 c
+linking_none p jobs c F = record { within = omega arith; falls = F; rest = λ c' L. L }
 
-module _ {G : Type 0} {p : G → Rule} {jobs c₀ : List ℕ} {i : ℕ} {c : List ℕ} (L : Linking p jobs c₀ i c) where
-  pub linking_next : {c' : List ℕ} → Links p ((get_or jobs i 0, get_or jobs (i + 1) 0) ∷ []) (i + 1) c c' → i + 1 < length jobs
+module _ {G : Type 0} {p : G → Rule} {jobs c₀ : List ℕ} {i : ℕ} {c : List ℕ} (L : Linking p jobs c₀ i c) (some : 1 ≤ i) where
+  pub linking_next : {c' : List ℕ} → Links p ((get_or jobs (i - 1) 0, get_or jobs i 0) ∷ []) (i - 1 + 1) c c' → i < length jobs
       → Linking p jobs c₀ (i + 1) c'
-  linking_next O h = record {
-    falls = O.falls;
-    rest = λ c'' M. L.rest c'' (rw (neighbours_at jobs i h)
-        (record { falls = M.falls; are = λ g w l. M.are g w l ∙ ap (joined (p g) w (neighbours (drop (i + 1) jobs))) (O.are g w l) }));
-  }
+  linking_next {c'} O h =
+      let q : i + 1 - 1 ≡ i - 1 + 1 = omega arith in
+      let t : i - 1 + 1 ≡ i = omega arith in
+      let n : neighbours (drop (i - 1) jobs) ≡ (get_or jobs (i - 1) 0, get_or jobs i 0) ∷ neighbours (drop (i - 1 + 1) jobs) =
+      subst (λ (j : ℕ). neighbours (drop (i - 1) jobs) ≡ (get_or jobs (i - 1) 0, get_or jobs j 0) ∷ neighbours (drop (i - 1 + 1) jobs)) t
+      (neighbours_at jobs (i - 1) (omega arith)) in
+      record {
+        within = omega arith;
+        falls = rw q O.falls;
+        rest = rw q (λ c'' M. L.rest c'' (rw n
+            (record { falls = M.falls; are = λ g w l. M.are g w l ∙ ap (joined (p g) w (neighbours (drop (i - 1 + 1) jobs))) (O.are g w l) })));
+      }
 
-  pub linking_done : length jobs ≤ i + 1 → i ≤ length jobs → length jobs ≤ most_entries → Links p (neighbours jobs) most_entries c₀ c
-  linking_done h n few = L.rest c
-      (rw (neighbours_drop jobs i h)
+  pub linking_done : length jobs ≤ i → length jobs ≤ most_entries → Links p (neighbours jobs) most_entries c₀ c
+  linking_done h few = let n = L.within in L.rest c
+      (rw (neighbours_drop jobs (i - 1) (omega arith))
       (record { falls = falls_more L.falls (omega arith); are = λ g w l. refl }))
 
-pub ruleset linking = (rules, falls_lent, job_at, linking_none, linking_next, linking_done)
+pub ruleset linking = (rules, falls_lent, job_before, linking_none, linking_next, linking_done)

@@ -8,19 +8,15 @@ use Rattle.rules.specs.Sizes.{most_jobs}
 use Rattle.rules.proofs.Orders.{lineup_answered}
 use Rattle.rules.proofs.Ranges.{Test, count_le, fail, pass, test}
 use Rattle.edges.specs.Edges.{Model}
-use Rattle.edges.specs.Lists.{Successors}
 use Rattle.graphs.specs.Degrees.{Kahn}
 use Rattle.graphs.specs.Graph.{at}
 use Rattle.graphs.proofs.Kahn as kahn
 use Rattle.graphs.proofs.Linked.{Linked}
 use Rattle.starts.specs.Lines.{Enters, Tells}
 use Rattle.starts.proofs.Lining as lining
-use Rattle.probes.specs.Aheads.{Heads, heads_from, heads_on}
+use Rattle.probes.specs.Aheads.{Sees}
 use Rattle.probes.specs.Fulls.{Begins, Lines, OnGraph, Tallied, on_edge, on_outs, pres_of}
-use Rattle.probes.specs.declared.heads.Head.{Head}
-use Rattle.probes.specs.declared.heads.Head.TheVariants.{To, End}
 use Rattle.probes.proofs.Listing.{linked_pres, pres_length}
-use Rattle.probes.proofs.Nexts.{first_near, heads_end, heads_less, heads_near, heads_next, job_near}
 
 -- ── those to which none leads ──
 
@@ -49,29 +45,25 @@ pub ruleset beginning = (rules, begins_none, begins_next, begins_far, begins_all
 
 -- ── the heads in turn ──
 
--- once the rest is told, all is
-pub record Telling (row off plus : List ℕ) (u start : ℕ) (o₀ d₀ : List ℕ) (k at tail : ℕ) (o d : List ℕ) : Type 0 where
-  pub rest : (r : ℕ) (o' d' : List ℕ) → Tells (heads_from row off plus u k at) tail o d r o' d'
-      → Tells (heads_on row off plus u) start o₀ d₀ r o' d'
+-- once those that are left are told, all are
+pub record Telling (all : List ℕ) (start : ℕ) (o₀ d₀ left : List ℕ) (tail : ℕ) (o d : List ℕ) : Type 0 where
+  pub rest : (r : ℕ) (o' d' : List ℕ) → Tells left tail o d r o' d' → Tells all start o₀ d₀ r o' d'
 
-pub telling_none : (row off plus : List ℕ) (u start : ℕ) (o d : List ℕ) {w at : ℕ} → w ≡ u → at ≡ get_or plus w 0
-    → Telling row off plus u start o d 0 at start o d
-unfolding heads_from heads_on
-telling_none row off plus u start o d e q = record { rest = λ r o' d' T. rw (q, e) at T }
+pub telling_none : (l : List ℕ) (start : ℕ) (o d : List ℕ) → Telling l start o d l start o d
+telling_none l start o d = record { rest = λ r o' d' T. T }
 
-module _ {row off plus : List ℕ} {u start : ℕ} {o₀ d₀ : List ℕ} {k at tail : ℕ} {o d : List ℕ}
-    (L : Telling row off plus u start o₀ d₀ k at tail o d) {r : Head} (H : Heads row off plus u k at r) where
-  pub telling_next : {v x y : ℕ} → r ≡ To v x y → {t : ℕ} {o' d' : List ℕ} → Tells (v ∷ []) tail o d t o' d'
-      → Telling row off plus u start o₀ d₀ x y t o' d'
-  telling_next {v} {x} {y} q T = record {
-    rest = λ r o' d' U. L.rest r o' d' (rw (heads_next H q)
-        ((lining.telling_next (lining.telling_none (v ∷ heads_from row off plus u x y) tail o d) (omega arith) T).rest r o' d' U));
+module _ {all : List ℕ} {start : ℕ} {o₀ d₀ left : List ℕ} {tail : ℕ} {o d : List ℕ} (L : Telling all start o₀ d₀ left tail o d) where
+  pub telling_next : {v : ℕ} {left' : List ℕ} → left ≡ v ∷ left' → {t : ℕ} {o' d' : List ℕ} → Tells (v ∷ []) tail o d t o' d'
+      → Telling all start o₀ d₀ left' t o' d'
+  telling_next {v} {left'} q T = record {
+    rest = λ r o' d' U. L.rest r o' d' (rw q
+        ((lining.telling_next (lining.telling_none (v ∷ left') tail o d) (omega arith) T).rest r o' d' U));
   }
 
-  pub telling_done : r ≡ End → tail ≤ most_jobs → Tells (heads_on row off plus u) start o₀ d₀ tail o d
-  telling_done q s = L.rest tail o d (rw (heads_end H q) (lining.telling_done (lining.telling_none [] tail o d) (omega arith) s))
+  pub telling_done : left ≡ [] → tail ≤ most_jobs → Tells all start o₀ d₀ tail o d
+  telling_done q s = L.rest tail o d (rw q (lining.telling_done (lining.telling_none [] tail o d) (omega arith) s))
 
-pub ruleset telling = (rules, first_near, heads_near, heads_less, telling_none, telling_next, telling_done)
+pub ruleset telling = (rules, telling_none, telling_next, telling_done)
 
 -- ── the order is passed ──
 
@@ -94,18 +86,18 @@ module _ {e off plus : List ℕ} {n head tail : ℕ} {o d : List ℕ} (L : Lined
   size : length (take tail o) ≡ tail
   size = length-take-le tail o (let a = L.short in omega arith)
 
-  module _ (hh : head < tail) {u k : ℕ} (eu : u ≡ get_or o head 0) (ek : k ≡ u) where
-    placed : k ≡ get_or (take tail o) head 0
-    placed = ek ∙ eu ∙ sym (get_or-take tail o head 0 hh)
+  module _ (hh : head < tail) {u : ℕ} (eu : u ≡ get_or o head 0) where
+    placed : u ≡ get_or (take tail o) head 0
+    placed = eu ∙ sym (get_or-take tail o head 0 hh)
 
     long : head < length (take tail o)
     long = omega (arith, size)
 
-    inside : (m : Model) → OnGraph e off plus n m → k < n
+    inside : (m : Model) → OnGraph e off plus n m → u < n
     inside m G = rw placed ((L.keeps m G).low (get_or (take tail o) head 0) (kahn.memb_get_or (take tail o) head long))
 
     -- what no calls could have left
-    pub lined_out : n ≤ k → Lines e off plus n false
+    pub lined_out : n ≤ u → Lines e off plus n false
     lined_out h = record { is = λ m G. absurd (let f : ⊥ = (let a = inside m G in omega arith) in f) }
 
   module _ (hh : tail ≤ head) (m : Model) (G : OnGraph e off plus n m) where
@@ -128,21 +120,21 @@ module _ {e off plus : List ℕ} {n head tail : ℕ} {o d : List ℕ} (L : Lined
   pub lined_done : tail ≤ head → Lines e off plus n (eqb tail n)
   lined_done hh = record { is = λ m G. judged hh m G (test (eqb tail n)) }
 
-module _ {e off plus row : List ℕ} {n head tail u k r : ℕ} {o d o' d' : List ℕ} (T : Tells (heads_on row off plus u) tail o d r o' d')
-    (L : Lined e off plus n head tail o d) (S : Successors e k row) (eu : u ≡ get_or o head 0) (ek : k ≡ u) (hh : head < tail) (hn : n ≤ most_jobs)
+module _ {e off plus l : List ℕ} {n head tail u r : ℕ} {o d o' d' : List ℕ} (T : Tells l tail o d r o' d')
+    (L : Lined e off plus n head tail o d) (S : Sees e off plus u l) (eu : u ≡ get_or o head 0) (hh : head < tail) (hn : n ≤ most_jobs)
     (lo : length o ≡ most_jobs) where
   step : (m : Model) → OnGraph e off plus n m → Kahn (pres_of (on_outs m off plus) n) n (take r o') (suc head) [] (at d')
   step m G =
       let out = on_outs m off plus in
       let N = on_linked G in
-      let low = inside L lo hh eu ek m G in
-      let K : Kahn (pres_of out n) n (take tail o) (suc head) (out k) (at d) = rw (placed L lo hh eu ek)
-      (kahn.kahn_begin n out (pres_of out n) N (take tail o) head (at d) (L.keeps m G) (long L lo hh eu ek)) in
-      let s : heads_on row off plus u ≡ out k = rw (← ek, S.is m G.holds) in
-      T.keeps (pres_of out n) n (suc head) [] hn (rw (append-nil, s) (N.out_once k low)) (rw s (λ v x. N.out_low k v low x))
+      let low = inside L lo hh eu m G in
+      let K : Kahn (pres_of out n) n (take tail o) (suc head) (out u) (at d) = rw (placed L lo hh eu)
+      (kahn.kahn_begin n out (pres_of out n) N (take tail o) head (at d) (L.keeps m G) (long L lo hh eu)) in
+      let s : l ≡ out u = S.is m G.holds in
+      T.keeps (pres_of out n) n (suc head) [] hn (rw (append-nil, s) (N.out_once u low)) (rw s (λ v x. N.out_low u v low x))
       (rw (append-nil, s) K)
 
   pub lined_next : Lined e off plus n (head + 1) r o' d'
   lined_next = record { short = T.short; keeps = λ m G. rw add-one (step m G) }
 
-pub ruleset lining_up = (rules, job_near, lined_none, lined_out, lined_next, lined_done)
+pub ruleset lining_up = (rules, lined_none, lined_out, lined_next, lined_done)

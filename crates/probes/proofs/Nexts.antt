@@ -1,63 +1,69 @@
--- The next head of a job's edges that are on. Assumes nothing.
-use Rattle.std.proofs.Common.{◌≡◌, ℕ, ◌+◌, ◌-◌, ◌<◌, ◌≤◌, Bool, true, false, List, [], ◌∷◌, length, get_or, refl, ap, ◌∙◌, arith, rules}
-use Rattle.rules.specs.Sizes.{most_entries, most_jobs}
-use Rattle.words.proofs.Rows.{row_cons, row_none}
-use Rattle.probes.specs.Aheads.{Heads, heads_from}
-use Rattle.probes.specs.Chains.{Falls, along, heads_at, nexts_at}
-use Rattle.probes.specs.Seen.{stays_at}
-use Rattle.probes.specs.declared.heads.Head.{Head}
-use Rattle.probes.specs.declared.heads.Head.TheVariants.{To, End}
-use Rattle.probes.proofs.Chaining.{links_cons, links_fall}
+-- The heads of a job's edges that are on, one after the other. Assumes nothing.
+use Rattle.std.proofs.Common.{◌≡◌, ℕ, ◌<◌, ◌≤◌, Bool, true, false, List, [], ◌∷◌, ◌++◌, sym, refl, ap, ◌∙◌, arith, rules, Bor, Option, Some, None, length}
+use Rattle.std.specs.Iterator.{MakesProgress, YieldsFirst, item_count}
+use Rattle.edges.specs.Lists.{Successors}
+use Rattle.probes.specs.Aheads.{Chained, Sees, Walks, heads_left, heads_on, links_left, staying}
+use Rattle.probes.specs.Chains.{heads_of}
+use Rattle.probes.specs.Seen.{stays}
+use Rattle.probes.specs.declared.chain.Leads.{Leads}
+use Rattle.probes.specs.declared.heads.Heads.{Heads}
+use Rattle.probes.specs.declared.view.View.{View}
+use Rattle.probes.proofs.Chaining.{advances}
 
--- the loop: once what is ahead from place k on is told, all is
-pub record Looking (row off plus : List ℕ) (u from at k : ℕ) : Type 0 where
-  pub rest : heads_from row off plus u from at ≡ heads_from row off plus u k at
+pub none_left : {l : List ℕ} → length l ≡ 0 → l ≡ []
+none_left {l = []} h = refl
+none_left {l = x ∷ l} h = absurd (let f : ⊥ = omega arith in f)
 
-pub looking_none : (row off plus : List ℕ) (u from at : ℕ) → Looking row off plus u from at from
-looking_none row off plus u from at = record { rest = refl }
+-- the loop: what is ahead is the same
+pub record Looking (h₀ h : Heads) : Type 0 where
+  pub rest : heads_left h₀ ≡ heads_left h
+  pub walks : Walks h
 
-module _ {row off plus : List ℕ} {u from at k : ℕ} (L : Looking row off plus u from at k) where
-  module _ (h : k < length row) {b : Bool} (is : b ≡ stays_at row off u k) where
-    pub looking_next : b ≡ false → Looking row off plus u from at (k + 1)
-    unfolding heads_from
-    looking_next q = record { rest = L.rest ∙ rw (row_cons row k h, ← is, q) }
+pub looking_none : (h : Heads) → Walks h → Looking h h
+looking_none h W = record { rest = refl; walks = W }
 
-    pub looking_on : b ≡ true → at ≤ most_entries → Heads row off plus u from at (To (get_or row k 0) (k + 1) at)
-    unfolding heads_from
-    looking_on q n = record { is = (n, L.rest ∙ rw (row_cons row k h, ← is, q)) }
+module _ {h₀ h : Heads} (L : Looking h₀ h) (rest : Bor (List ℕ)) {v : ℕ} (e : h.row.now ≡ v ∷ rest.now) {b : Bool}
+    (is : b ≡ stays h.view.off.now h.u v) where
+  abbrev pub ahead : Heads
+  ahead = record h { row = rest }
 
-  module _ (h : length row ≤ k) where
-    pub looking_end : at ≡ 0 → Heads row off plus u from at End
-    unfolding heads_from along
-    looking_end q = record { is = L.rest ∙ rw (row_none row k h, q) }
+  walks_on : Walks ahead
+  walks_on = record { off = L.walks.off; job = L.walks.job; plus = L.walks.plus }
 
-    pub looking_come : Falls most_entries plus → at ≤ most_entries → (at ≡ 0 → ⊥) → {x : ℕ} → x ≡ get_or plus (nexts_at + (at - 1)) 0
-        → Heads row off plus u from at (To (get_or plus (heads_at + (at - 1)) 0) k x)
-    unfolding heads_from
-    looking_come F n z {x} ex =
-        let p : 0 < at = omega arith in
-        record { is = (let a = links_fall F ex p n in omega arith, L.rest ∙ rw (row_none row k h, ex) (links_cons F p n)) }
+  pub looking_next : b ≡ false → Looking h₀ ahead
+  unfolding heads_left
+  looking_next q = record {
+    rest = L.rest ∙ ap (λ (l : List ℕ). staying h.view.off.now h.u l ++ links_left h.plus) e ∙ rw (← is, q);
+    walks = walks_on;
+  }
 
-pub ruleset looking = (rules, looking_none, looking_next, looking_on, looking_end, looking_come)
+  pub looking_on : b ≡ true → heads_left h₀ ≡ v ∷ heads_left ahead
+  unfolding heads_left
+  looking_on q = L.rest ∙ ap (λ (l : List ℕ). staying h.view.off.now h.u l ++ links_left h.plus) e ∙ rw (← is, q)
 
--- where the links of a job begin
-pub first_near : {plus : List ℕ} → Falls most_entries plus → (u w : ℕ) {at : ℕ} → at ≡ get_or plus w 0 → w ≡ u → u < most_jobs → at ≤ most_entries
-first_near F u w e q h = rw (e, q) (F.first u h)
+  pub looking_goes : b ≡ true → MakesProgress Walks (item_count heads_left) h₀ (Some v) ahead
+  looking_goes q = advances Walks heads_left walks_on (looking_on q)
 
-pub job_near : {u k n : ℕ} → k ≡ u → k < n → n ≤ most_jobs → u < most_jobs
-job_near q h l = omega arith
+-- the row is passed: those that come on are left
+module _ {h₀ h : Heads} (L : Looking h₀ h) (e : h.row.now ≡ []) where
+  only_plus : (p : Leads) → heads_left (record h { plus = p }) ≡ links_left p
+  unfolding heads_left
+  only_plus p = ap (λ (l : List ℕ). staying h.view.off.now h.u l ++ links_left p) e
 
--- what is left of a job's heads: the next, and one less, or none
-module _ {row off plus : List ℕ} {u k at : ℕ} {r : Head} (H : Heads row off plus u k at r) where
-  pub heads_end : r ≡ End → heads_from row off plus u k at ≡ []
-  heads_end q = rw q at H.is
+  pub looking_end : (r : Option ℕ) (p : Leads) → YieldsFirst links_left h.plus r p → YieldsFirst heads_left h₀ r (record h { plus = p })
+  looking_end None p (a, b) = (L.rest ∙ only_plus h.plus ∙ a, only_plus p ∙ b)
+  looking_end (Some x) p a = L.rest ∙ only_plus h.plus ∙ a ∙ ap (λ (l : List ℕ). x ∷ l) (sym (only_plus p))
 
-  module _ {v x y : ℕ} (q : r ≡ To v x y) where
-    pub heads_next : heads_from row off plus u k at ≡ v ∷ heads_from row off plus u x y
-    heads_next = (rw q at H.is).1
+  pub ending_goes : (r : Option ℕ) (p : Leads) → YieldsFirst links_left h.plus r p → MakesProgress Chained (item_count links_left) h.plus r p
+      → MakesProgress Walks (item_count heads_left) h₀ r (record h { plus = p })
+  ending_goes None p a G = search rules
+  ending_goes (Some x) p a G =
+      advances Walks heads_left (record { off = L.walks.off; job = L.walks.job; plus = G.keeps }) (looking_end (Some x) p a)
 
-    pub heads_near : y ≤ most_entries
-    heads_near = (rw q at H.is).0
+-- where the edges from u begin
+pub heads_begin : (v : View) {u w : ℕ} (row : Bor (List ℕ)) (p : Leads) → w ≡ u → Successors v.live.now w row.now → links_left p ≡ heads_of v.plus.now u
+    → Sees v.live.now v.off.now v.plus.now u (heads_left (record { view = v; u = u; row = row; plus = p }))
+unfolding heads_left heads_on
+heads_begin v row p e S q = record { is = λ m H. rw (q, S.is m H, e) }
 
-    pub heads_less : length (heads_from row off plus u x y) < length (heads_from row off plus u k at)
-    heads_less = let a = ap length heads_next in omega arith
+pub ruleset looking = (rules, looking_none)

@@ -1,9 +1,11 @@
 -- The search among the fixed pairs: by halves for the first of a job, then one by one. Assumes nothing.
-use Rattle.std.proofs.Common.{◌≡◌, ℕ, zero, suc, ◌+◌, ◌-◌, ◌/◌, ◌<◌, ◌≤◌, true, false, ltb, List, [], ◌∷◌, length, get_or, drop, sym, refl, ◌∙◌, le_of_suc-le-suc, not-suc-le-zero, add-one, arith, drop_of_length-le, drop-cons, rules, ltb-false, le-ltb, eq-eqb, ne_eqb}
+use Rattle.std.proofs.Common.{◌≡◌, ℕ, zero, suc, ◌+◌, ◌-◌, ◌<◌, ◌≤◌, true, false, ltb, ◌⊎◌, inl, inr, subst, length-drop, get_or-drop, ltb-true, List, [], ◌∷◌, length, get_or, drop, sym, refl, ◌∙◌, le_of_suc-le-suc, not-suc-le-zero, add-one, arith, drop_of_length-le, drop-cons, rules, ltb-false, le-ltb, eq-eqb, ne_eqb}
 use Rattle.rules.specs.Lists.{Pair}
 use Rattle.rules.specs.Moves.{occurs}
 use Rattle.rules.specs.Sizes.{falls, pair_up}
+use Rattle.std.specs.List.Sorted.{IsPartitionPoint}
 use Rattle.rules.proofs.Members.{or_false}
+use Rattle.rules.proofs.Ranges.{lt_or_le, same}
 use Rattle.probes.specs.Pairs.{Parted, Rising}
 
 -- ── tails that never fall ──
@@ -30,51 +32,46 @@ none_above u v a (b ∷ l) (c ∷ m) e h =
     let k : a ≤ b = ltb-false b a p in
     other_pair u v b c (pair_up l m) (λ z. omega arith) ∙ none_above u v b l m q (omega arith)
 
--- lower ones, up to place i
-none_below : (u v a : ℕ) (l m : List ℕ) (i : ℕ) → falls a l ≡ false → length l ≡ length m → i < length l → get_or l i 0 < u
-    → occurs (pair_up (drop (suc i) l) (drop (suc i) m)) u v ≡ occurs (pair_up l m) u v
-none_below u v a [] m i e s h k = absurd (not-suc-le-zero h)
-none_below u v a (b ∷ l) [] i e s h k = let f : ⊥ = omega arith in absurd f
-none_below u v a (b ∷ l) (c ∷ m) zero e s h k = sym (other_pair u v b c (pair_up l m) (λ z. omega arith))
-none_below u v a (b ∷ l) (c ∷ m) (suc i) e s h k =
-    let (p, q) = or_false {a = ltb b a} e in
-    let (x, y) = falls_from b l i q (le_of_suc-le-suc h) in
-    none_below u v b l m i q (omega arith) (le_of_suc-le-suc h) k ∙ sym (other_pair u v b c (pair_up l m) (λ z. omega arith))
+-- the lower ones in front
+none_below : (u v : ℕ) (l m : List ℕ) (i : ℕ) → length l ≡ length m → ((k : ℕ) → k < i → k < length l → get_or l k 0 < u)
+    → occurs (pair_up (drop i l) (drop i m)) u v ≡ occurs (pair_up l m) u v
+none_below u v l m zero s f = refl
+none_below u v [] [] (suc i) s f = refl
+none_below u v [] (c ∷ m) (suc i) s f = absurd (let g : ⊥ = omega arith in g)
+none_below u v (b ∷ l) [] (suc i) s f = absurd (let g : ⊥ = omega arith in g)
+none_below u v (b ∷ l) (c ∷ m) (suc i) s f =
+    let k : b < u = f 0 (omega arith) (omega arith) in
+    none_below u v l m i (omega arith) (λ j h n. f (suc j) (omega arith) (omega arith)) ∙ sym (other_pair u v b c (pair_up l m) (λ z. omega arith))
 
--- ── by halves ──
+-- ── the first that is not lower ──
 
-pub parted_all : (from : List ℕ) (u : ℕ) → Parted from u 0 (length from)
-parted_all from u = record {
-  order = omega arith;
-  within = omega arith;
-  none = λ r to s v. refl;
-  above = λ r. rw (drop_of_length-le from {i = length from} (omega arith));
-}
+module _ (from : List ℕ) (u : ℕ) where
+  pub rises : Rising from → (i j : ℕ) → i ≤ j → j < length from → get_or from i 0 ≤ get_or from j 0
+  rises r i j h k = look (below_or i j h)
+    where
+      below_or : (i j : ℕ) → i ≤ j → (i ≡ j) ⊎ (i < j)
+      below_or i j h = elim (same i j) [ inl e ↦ inl e | inr n ↦ inr (omega arith) ]
 
-module _ {from : List ℕ} {u lo hi : ℕ} (P : Parted from u lo hi) where
-  abbrev mid : ℕ
-  mid = lo + (hi - lo) / 2
+      look : (i ≡ j) ⊎ (i < j) → get_or from i 0 ≤ get_or from j 0
+      look (inl e) = rw e (omega arith)
+      look (inr l) =
+          let (a, b) = falls_from 0 from i r.is (omega arith) in
+          let (x, y) = falls_from (get_or from i 0) (drop (suc i) from) (j - suc i) b (simp length-drop (omega arith)) in
+          let q : suc i + (j - suc i) ≡ j = omega arith in
+          subst (λ (n : ℕ). get_or from i 0 ≤ get_or from n 0) q (rw (sym (get_or-drop (suc i) from (j - suc i) 0)) x)
 
-  module _ (m : lo < hi) where
-    pub parted_up : get_or from mid 0 < u → Parted from u (mid + 1) hi
-    parted_up h = record {
-      order = omega arith;
-      within = P.within;
-      none = λ r to s v. rw add-one (none_below u v 0 from to mid r.is s (let a = P.within in omega arith) h);
-      above = P.above;
-    }
-
-    pub parted_down : u ≤ get_or from mid 0 → Parted from u lo mid
-    parted_down h = record {
-      order = omega arith;
-      within = let a = P.within in omega arith;
-      none = P.none;
-      above = λ r. let i : mid < length from = (let a = P.within in omega arith) in
-          rw (drop-cons from mid 0 i, le-ltb (get_or from mid 0) u h) (falls_from 0 from mid r.is i).1;
-    }
-
-  pub parted_end : hi ≤ lo → Parted from u lo lo
-  parted_end h = let e : hi ≡ lo = (let a = P.order in omega arith) in rw e at P
+  -- P: what `partition_point` says of the tails below u
+  pub parted_at : (i : ℕ) → i ≤ length from → (Rising from → IsPartitionPoint (λ y. ltb y u ≡ true) (λ y. ltb y u ≡ false) from i) → Parted from u i i
+  parted_at i h point = record {
+    order = omega arith;
+    within = h;
+    none = λ r to s v. none_below u v from to i s (λ k a b. ltb-true _ _ ((point r).0 k 0 (omega arith) a));
+    above = λ r. beyond r (lt_or_le i (length from));
+  }
+    where
+      beyond : Rising from → (i < length from) ⊎ (length from ≤ i) → falls u (drop i from) ≡ false
+      beyond r (inr k) = rw (drop_of_length-le from k)
+      beyond r (inl k) = rw (drop-cons from i 0 k, le-ltb (get_or from i 0) u (ltb-false _ _ ((point r).1 i 0 (omega arith) k))) (falls_from 0 from i r.is k).1
 
 -- ── one by one ──
 
@@ -116,4 +113,4 @@ module _ {from to : List ℕ} {u v i : ℕ} (P : Passing from to u v i) where
       above = λ r. rw (add-one, ← a) (over r).1;
     }
 
-pub ruleset seeking = (rules, parted_all, parted_up, parted_down, parted_end, pass_start, pass_end, pass_high, pass_hit, pass_next)
+pub ruleset seeking = (rules, pass_start, pass_end, pass_high, pass_hit, pass_next)

@@ -5,13 +5,9 @@ use Rattle.rules.specs.Scores.{times_in}
 use Rattle.rules.specs.Sizes.{most_jobs}
 use Rattle.rules.proofs.Ranges.{count_le, same}
 use Rattle.edges.specs.Edges.{Model}
-use Rattle.edges.specs.Lists.{Successors}
 use Rattle.graphs.specs.Graph.{at}
-use Rattle.probes.specs.Aheads.{Heads, heads_from, heads_on}
+use Rattle.probes.specs.Aheads.{Sees}
 use Rattle.probes.specs.Fulls.{Bumps, OnGraph, Tallied, lead_to, on_outs}
-use Rattle.probes.specs.declared.heads.Head.{Head}
-use Rattle.probes.specs.declared.heads.Head.TheVariants.{To, End}
-use Rattle.probes.proofs.Nexts.{first_near, heads_end, heads_less, heads_near, heads_next}
 
 -- ── one more edge to v ──
 
@@ -43,23 +39,21 @@ module _ (v k : ℕ) (d : List ℕ) (ek : k ≡ v) where
 
 -- ── the heads of a job in turn ──
 
--- once the rest is counted, all is
-pub record Bumping (row off plus : List ℕ) (u : ℕ) (d₀ : List ℕ) (k at : ℕ) (d : List ℕ) : Type 0 where
-  pub rest : (d' : List ℕ) → Bumps (heads_from row off plus u k at) d d' → Bumps (heads_on row off plus u) d₀ d'
+-- once those that are left are counted, all are
+pub record Bumping (all d₀ left d : List ℕ) : Type 0 where
+  pub rest : (d' : List ℕ) → Bumps left d d' → Bumps all d₀ d'
 
-pub bumping_none : (row off plus : List ℕ) (u : ℕ) (d : List ℕ) {w at : ℕ} → w ≡ u → at ≡ get_or plus w 0 → Bumping row off plus u d 0 at d
-unfolding heads_from heads_on
-bumping_none row off plus u d e q = record { rest = λ d' B. rw (q, e) at B }
+pub bumping_none : (l d : List ℕ) → Bumping l d l d
+bumping_none l d = record { rest = λ d' B. B }
 
-module _ {row off plus : List ℕ} {u : ℕ} {d₀ : List ℕ} {k at : ℕ} {d : List ℕ} (L : Bumping row off plus u d₀ k at d) {r : Head}
-    (H : Heads row off plus u k at r) where
-  pub bumping_next : {v x y : ℕ} → r ≡ To v x y → {d' : List ℕ} → Bumps (v ∷ []) d d' → Bumping row off plus u d₀ x y d'
-  bumping_next q B = record { rest = λ d' C. L.rest d' (rw (heads_next H q) (bumps_then B C)) }
+module _ {all d₀ left d : List ℕ} (L : Bumping all d₀ left d) where
+  pub bumping_next : {v : ℕ} {left' d' : List ℕ} → left ≡ v ∷ left' → Bumps (v ∷ []) d d' → Bumping all d₀ left' d'
+  bumping_next q B = record { rest = λ d' C. L.rest d' (rw q (bumps_then B C)) }
 
-  pub bumping_done : r ≡ End → Bumps (heads_on row off plus u) d₀ d
-  bumping_done q = L.rest d (rw (heads_end H q) (bumps_none d))
+  pub bumping_done : left ≡ [] → Bumps all d₀ d
+  bumping_done q = L.rest d (rw q (bumps_none d))
 
-pub ruleset bumping = (rules, bump_out, bump_more, first_near, heads_near, heads_less, bumping_none, bumping_next, bumping_done)
+pub ruleset bumping = (rules, bump_out, bump_more, bumping_none, bumping_next, bumping_done)
 
 -- ── job after job ──
 
@@ -74,16 +68,15 @@ once_times w (v ∷ l) (a, o) = look (same w v) (once_times w l o)
 pub tallied_none : (e off plus : List ℕ) (n : ℕ) (d : List ℕ) → Tallied e off plus n 0 d d
 tallied_none e off plus n d = record { is = λ m G z. z }
 
-pub tallied_next : {e off plus : List ℕ} {n u : ℕ} {d₀ d row d' : List ℕ} → Bumps (heads_on row off plus u) d d' → Tallied e off plus n u d₀ d
-    → Successors e u row → u < n → n ≤ most_jobs → Tallied e off plus n (u + 1) d₀ d'
-tallied_next {e} {off} {plus} {n} {u} {d₀} {d} {row} {d'} B T S hu hn = record { is = λ m G z w h. rw add-one (step m G z w h) }
+pub tallied_next : {e off plus : List ℕ} {n u : ℕ} {d₀ d l d' : List ℕ} → Bumps l d d' → Tallied e off plus n u d₀ d
+    → Sees e off plus u l → u < n → n ≤ most_jobs → Tallied e off plus n (u + 1) d₀ d'
+tallied_next {e} {off} {plus} {n} {u} {d₀} {d} {l} {d'} B T S hu hn = record { is = λ m G z w h. rw add-one (step m G z w h) }
   where
     step : (m : Model) → OnGraph e off plus n m → ((w : ℕ) → w < most_jobs → at d₀ w ≡ 0) → (w : ℕ) → w < most_jobs
         → at d' w ≡ lead_to (on_outs m off plus) (suc u) w
     step m G z w h =
         let out = on_outs m off plus in
-        let s : times_in w (heads_on row off plus u) ≡ tick (memb w (out u)) 0 =
-        ap (λ (x : List ℕ). times_in w (heads_on x off plus u)) (S.is m G.holds) ∙ once_times w (out u) (G.once u hu) in
+        let s : times_in w l ≡ tick (memb w (out u)) 0 = ap (times_in w) (S.is m G.holds) ∙ once_times w (out u) (G.once u hu) in
         let a = T.is m G z w h in
         let c = count_le (suc u) (λ x. memb w (out x)) in
         let t : lead_to out (suc u) w ≡ lead_to out u w + tick (memb w (out u)) 0 = ticked (memb w (out u)) (lead_to out u w) in

@@ -1,12 +1,12 @@
 -- Laws of what a move turns off and of what comes on. Assumes nothing.
-use Rattle.std.proofs.Common.{◌≡◌, ℕ, ◌+◌, ◌<◌, ◌≤◌, Bool, true, false, cond, ◌&&◌, eqb, ◌⊎◌, List, [], ◌∷◌, length, get_or, drop, sym, ap, ◌∙◌, inl, inr, arith, rules, eq-eqb, ne_eqb}
+use Rattle.std.specs.List.{list_any}
+use Rattle.std.proofs.Common.{nat_eq, refl, ◌≡◌, ℕ, ◌+◌, ◌<◌, ◌≤◌, Bool, true, false, cond, ◌&&◌, ◌||◌, eqb, ◌⊎◌, List, [], ◌∷◌, length, get_or, sym, ap, ◌∙◌, inl, inr, arith, rules, eq-eqb, ne_eqb}
 use Rattle.rules.specs.Lists.{memb}
 use Rattle.rules.specs.Moves.{occurs}
 use Rattle.rules.specs.Sizes.{pair_up}
 use Rattle.rules.proofs.Ranges.{same}
 use Rattle.edges.specs.Lists.{Successors}
 use Rattle.graphs.specs.Graph.{live}
-use Rattle.words.proofs.Rows.{row_cons, row_none}
 use Rattle.probes.specs.Chains.{Falls, Links, Rule, always, heads_of, holds_of}
 use Rattle.probes.specs.Gathered.{Held, comes_on, goes_off}
 use Rattle.probes.specs.Pairs.{Rising}
@@ -72,14 +72,11 @@ pub ruleset turning = (rules, falls_lent, off_there, off_fixed, off_goes, on_the
 
 -- ── a row is searched ──
 
-pub among_end : (row : List ℕ) (v k : ℕ) → memb v (drop k row) ≡ memb v row → length row ≤ k → false ≡ memb v row
-among_end row v k i h = rw (row_none row k h) at i
-
-pub among_hit : (row : List ℕ) (v k : ℕ) → memb v (drop k row) ≡ memb v row → k < length row → get_or row k 0 ≡ v → true ≡ memb v row
-among_hit row v k i h e = rw (row_cons row k h, eq-eqb v (get_or row k 0) (sym e)) at i
-
-pub among_next : (row : List ℕ) (v k : ℕ) → memb v (drop k row) ≡ memb v row → k < length row → (get_or row k 0 ≡ v → ⊥)
-    → memb v (drop (k + 1) row) ≡ memb v row
-among_next row v k i h e = rw (row_cons row k h, ne_eqb v (get_or row k 0) (λ q. e (sym q))) at i
-
-pub ruleset seeking_row = (rules, among_end, among_hit, among_next)
+-- what `contains` tells
+pub contains_memb : (row : List ℕ) (v : ℕ) → list_any (λ y. nat_eq y v) row ≡ memb v row
+contains_memb [] v = refl
+contains_memb (w ∷ l) v = look (same v w) (contains_memb l v)
+  where
+    look : (v ≡ w) ⊎ (v ≡ w → ⊥) → list_any (λ y. nat_eq y v) l ≡ memb v l → nat_eq w v || list_any (λ y. nat_eq y v) l ≡ eqb v w || memb v l
+    look (inl e) ih = rw (eq-eqb v w e, eq-eqb w v (sym e))
+    look (inr n) ih = rw (ne_eqb v w n, ne_eqb w v (λ q. n (sym q))) ih

@@ -1,27 +1,49 @@
 -- Where the edges of a job lead that are on: the live ones that stay, then those that come on. Assumes nothing.
-use Rattle.std.specs.Prelude.{◌≡◌, ℕ, ◌≤◌, not, List, [], ◌∷◌, ◌++◌, drop}
+use Rattle.std.specs.Prelude.{◌≡◌, ℕ, ◌<◌, ◌≤◌, List, ◌++◌, length}
 use Rattle.rules.specs.Lists.{keep}
-use Rattle.rules.specs.Sizes.{most_entries}
-use Rattle.probes.specs.Chains.{heads_of, holds_of, links_at}
-use Rattle.probes.specs.declared.heads.Head.{Head}
-use Rattle.probes.specs.declared.heads.Head.TheVariants.{To, End}
+use Rattle.rules.specs.Sizes.{edges_length, most_entries, most_jobs}
+use Rattle.edges.specs.Edges.{Model, Holds}
+use Rattle.edges.specs.Lists.{out_of}
+use Rattle.probes.specs.Chains.{Falls, heads_of, links_at}
+use Rattle.probes.specs.Seen.{stays}
+use Rattle.probes.specs.declared.chain.Leads.{Leads}
+use Rattle.probes.specs.declared.heads.Heads.{Heads}
+use Rattle.probes.specs.declared.view.View.{View}
 
 -- of a list of heads of u those whose edge stays on
 abbrev pub staying : List ℕ → ℕ → List ℕ → List ℕ
-staying off u l = keep (λ v. not (holds_of off u v)) l
+staying off u l = keep (λ v. stays off u v) l
 
 -- of u, whose live heads are the row
 unfoldable pub heads_on : List ℕ → List ℕ → List ℕ → ℕ → List ℕ
 heads_on row off plus u = staying off u row ++ heads_of plus u
 
--- from a place of the row and a link on
-unfoldable pub heads_from : List ℕ → List ℕ → List ℕ → ℕ → ℕ → ℕ → List ℕ
-heads_from row off plus u k at = staying off u (drop k row) ++ links_at plus at
+-- the edges' words and two sets
+pub record Views (v : View) : Type 0 where
+  pub live : length v.live.now ≡ edges_length
+  pub off : Falls most_entries v.off.now
+  pub plus : Falls most_entries v.plus.now
 
--- the first of l, and from where the others go on
-abbrev pub Ahead : List ℕ → List ℕ → List ℕ → ℕ → List ℕ → Head → Type 0
-Ahead row off plus u l (To v k at) = (at ≤ most_entries) × (l ≡ v ∷ heads_from row off plus u k at)
-Ahead row off plus u l End = l ≡ []
+-- ── one after the other ──
 
-pub record Heads (row off plus : List ℕ) (u k at : ℕ) (r : Head) : Type 0 where
-  pub is : Ahead row off plus u (heads_from row off plus u k at) r
+-- a link of a set
+pub record Chained (l : Leads) : Type 0 where
+  pub falls : Falls most_entries l.set.now
+  pub near : l.at ≤ most_entries
+
+-- the heads that are still to come, of a set
+unfoldable pub links_left : Leads → List ℕ
+links_left l = links_at l.set.now l.at
+
+pub record Walks (h : Heads) : Type 0 where
+  pub off : Falls most_entries h.view.off.now
+  pub job : h.u < most_jobs
+  pub plus : Chained h.plus
+
+-- and of a job's edges that are on
+unfoldable pub heads_left : Heads → List ℕ
+heads_left h = staying h.view.off.now h.u h.row.now ++ links_left h.plus
+
+-- those of u, in whatever model the words hold
+pub record Sees (e off plus : List ℕ) (u : ℕ) (l : List ℕ) : Type 0 where
+  pub is : (m : Model) → Holds e m → l ≡ heads_on (out_of m u) off plus u

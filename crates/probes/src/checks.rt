@@ -1,14 +1,17 @@
 // Both checks of a new route.
+#![tactic(auto, using(crate::proofs::Judging::judging))]
+
 ghost use Rattle.std.specs.Prelude.{◌≡◌, ◌≤◌, true, length};
 ghost use Rattle.rules.specs.Lists.{all_below};
 ghost use Rattle.rules.specs.Sizes.{edges_length, most_entries, most_jobs};
-ghost use Rattle.probes.specs.Chains.{Falls};
+ghost use Rattle.probes.specs.Aheads.{Views};
 ghost use Rattle.probes.specs.Judges.{Both, Checks};
 
 use crate::chain::{SET, index};
 use crate::full::lines_up;
 use crate::quick::turns;
 use crate::sets::{turned_off, turned_on};
+use crate::view::View;
 
 // The two verdicts.
 #[derive(Clone, Copy)]
@@ -18,12 +21,11 @@ pub struct Checked {
 }
 
 // Where the plan is not cyclic both checks agree; else the quick one looks for a way back.
-fn both(e: &[u16], off: &[u16], plus: &[u16], new: &[u16], n: usize, was: bool) -> Checked
-    requires { (length e.now ≡ edges_length) × Falls most_entries off.now × Falls most_entries plus.now
-        × (n ≤ most_jobs) × (all_below n new.now ≡ true) }
-    ensures { Both e.now off.now plus.now new.now n was result }
+fn both(view: View, new: &[u16], n: usize, was: bool) -> Checked
+    requires { Views view × (n ≤ most_jobs) × (all_below n new.now ≡ true) }
+    ensures { Both view.entry.live.now view.entry.off.now view.entry.plus.now new.now n was result }
 {
-    if lines_up(e, off, plus, n) {
+    if lines_up(view, n) {
         return Checked {
             quick: false,
             full: false,
@@ -35,7 +37,7 @@ fn both(e: &[u16], off: &[u16], plus: &[u16], new: &[u16], n: usize, was: bool) 
             full: true,
         };
     }
-    let quick = turns(e, off, plus, new, n);
+    let quick = turns(view, new, n);
     Checked { quick, full: true }
 }
 
@@ -62,5 +64,10 @@ pub fn check(
     index(new, &mut news);
     turned_off(from, to, old, &news, &mut off);
     turned_on(e, &olds, new, &mut plus);
-    both(e, &off, &plus, new, n, was)
+    let view = View {
+        live: e,
+        off: &off,
+        plus: &plus,
+    };
+    both(view, new, n, was)
 }

@@ -1,4 +1,6 @@
 // Whether an edge is fixed. `from` never falls along the list, so the pairs of a job stand together.
+#![tactic(auto, using(crate::proofs::Sought::seeking))]
+
 ghost use Rattle.std.specs.Prelude.{◌≡◌, length};
 ghost use Rattle.rules.specs.Moves.{occurs};
 ghost use Rattle.rules.specs.Sizes.{pair_up};
@@ -8,17 +10,7 @@ ghost use Rattle.probes.specs.Pairs.{Parted, Rising};
 fn lower(from: &[u32], u: u32) -> usize
     ensures { Parted from.now u result result }
 {
-    let mut lo: usize = 0;
-    let mut hi = from.len();
-    while lo < hi {
-        let mid = lo + (hi - lo) / 2;
-        if from[mid] < u {
-            lo = mid + 1;
-        } else {
-            hi = mid;
-        }
-    }
-    lo
+    from.partition_point(|tail| *tail < u)
 }
 
 // The pair (u, v) is one of them.
@@ -26,15 +18,13 @@ pub fn is_fixed(from: &[u32], to: &[u32], u: u32, v: u32) -> bool
     requires { length from.now ≡ length to.now }
     ensures { Rising from.now → result ≡ occurs (pair_up from.now to.now) u v }
 {
-    let mut i = lower(from, u);
-    while i < from.len() {
+    for i in lower(from, u)..from.len() {
         if from[i] != u {
             return false;
         }
         if to[i] == v {
             return true;
         }
-        i = i + 1;
     }
     false
 }

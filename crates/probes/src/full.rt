@@ -1,129 +1,101 @@
 // The full check: a line-up by degrees over what is on.
-ghost use Rattle.std.specs.Prelude.{◌≡◌, ◌<◌, ◌≤◌, [], ◌∷◌, length};
-ghost use Rattle.rules.specs.Sizes.{edges_length, most_entries, most_jobs};
+#![tactic(auto, using(crate::proofs::Lineups::lining_up))]
+
+ghost use Rattle.std.specs.Prelude.{◌≡◌, ◌≤◌, [], ◌∷◌, length};
+ghost use Rattle.rules.specs.Sizes.{most_jobs};
 ghost use Rattle.starts.specs.Lines.{Tells};
-ghost use Rattle.probes.specs.Aheads.{heads_on};
-ghost use Rattle.probes.specs.Chains.{Falls};
+ghost use Rattle.probes.specs.Aheads.{Views, Walks, heads_left};
 ghost use Rattle.probes.specs.Fulls.{Begins, Bumps, Lines, Tallied};
 
-use crate::heads::{Head, head_from};
-use edges::lists::successors;
+use crate::heads::{Heads, heads_from};
+use crate::view::View;
 use rules::Plan;
 use starts::lineup::{enter, relax};
-use words::wide;
 
 // One more edge leads to v. A number that is no job is passed over.
+#[tactic(auto, using(crate::proofs::Tallying::bumping))]
 fn bump(deg: &mut [u16], v: u16)
     requires { length deg.old ≡ most_jobs }
     ensures { Bumps (v ∷ []) deg.old deg.new }
 {
-    let k = wide(v);
+    let k = usize::from(v);
     if Plan::JOBS <= k {
         return;
     }
-    let d = deg[k];
-    deg[k] = std::num::wrapping_add_u16(d, 1);
+    deg[k] = deg[k].wrapping_add(1);
 }
 
-// The same for each job to which an edge from u leads that is on.
-fn bumps(row: &[u16], off: &[u16], plus: &[u16], u: u16, deg: &mut [u16])
-    requires { Falls most_entries off.now × Falls most_entries plus.now × (u < most_jobs) × (length deg.old ≡ most_jobs) }
-    ensures { Bumps (heads_on row.now off.now plus.now u) deg.old deg.new }
+// The same for each job to which an edge leads.
+#[tactic(auto, using(crate::proofs::Tallying::bumping))]
+fn bumps(heads: Heads, deg: &mut [u16])
+    requires { Walks heads × (length deg.old ≡ most_jobs) }
+    ensures { Bumps (heads_left heads.entry) deg.old deg.new }
 {
-    let mut k: usize = 0;
-    let mut at = wide(plus[wide(u)]);
-    loop {
-        match head_from(row, off, plus, u, k, at) {
-            Head::End => return,
-            Head::To(v, x, y) => {
-                bump(deg, v);
-                k = x;
-                at = y;
-            }
-        }
+    for v in heads {
+        bump(deg, v);
     }
 }
 
 // How many edges that are on lead to each job.
-fn tally(e: &[u16], off: &[u16], plus: &[u16], deg: &mut [u16], n: usize)
-    requires { (length e.now ≡ edges_length) × Falls most_entries off.now × Falls most_entries plus.now
-        × (length deg.old ≡ most_jobs) × (n ≤ most_jobs) }
-    ensures { Tallied e.now off.now plus.now n n deg.old deg.new }
+#[tactic(auto, using(crate::proofs::Tallying::tallying))]
+fn tally(view: View, deg: &mut [u16], n: usize)
+    requires { Views view × (length deg.old ≡ most_jobs) × (n ≤ most_jobs) }
+    ensures { Tallied view.entry.live.now view.entry.off.now view.entry.plus.now n n deg.old deg.new }
 {
-    let mut u: usize = 0;
-    while u < n {
-        bumps(successors(e, u), off, plus, u as u16, deg);
-        u = u + 1;
+    for u in 0..n {
+        bumps(heads_from(view, u as u16), deg);
     }
 }
 
 // Those to which none leads start the order.
+#[tactic(auto, using(crate::proofs::Lineups::beginning))]
 fn begin(count: &[u16], order: &mut [u16], deg: &mut [u16], n: usize) -> usize
     requires { (length count.now ≡ most_jobs) × (length order.old ≡ most_jobs) × (length deg.old ≡ most_jobs) × (n ≤ most_jobs) }
     ensures { Begins count.now n n result order.new deg.new }
 {
-    let mut tail: usize = 0;
-    let mut v: usize = 0;
-    while v < n {
-        let k = wide(count[v]);
+    let mut tail = 0;
+    for v in 0..n {
+        let k = usize::from(count[v]);
         if Plan::JOBS < k {
             return tail;
         }
         tail = enter(order, deg, v, k, tail);
-        v = v + 1;
     }
     tail
 }
 
-// The heads of u that are on have one predecessor less to wait for.
-fn tells(
-    row: &[u16],
-    off: &[u16],
-    plus: &[u16],
-    u: u16,
-    order: &mut [u16],
-    deg: &mut [u16],
-    start: usize,
-) -> usize
-    requires { Falls most_entries off.now × Falls most_entries plus.now × (u < most_jobs)
-        × (length order.old ≡ most_jobs) × (length deg.old ≡ most_jobs) × (start ≤ most_jobs) }
-    ensures { Tells (heads_on row.now off.now plus.now u) start
-        order.old deg.old result order.new deg.new }
+// The heads have one predecessor less to wait for.
+#[tactic(auto, using(crate::proofs::Lineups::telling))]
+fn tells(heads: Heads, order: &mut [u16], deg: &mut [u16], start: usize) -> usize
+    requires { Walks heads × (length order.old ≡ most_jobs) × (length deg.old ≡ most_jobs) × (start ≤ most_jobs) }
+    ensures { Tells (heads_left heads.entry) start order.old deg.old result order.new deg.new }
 {
     let mut tail = start;
-    let mut k: usize = 0;
-    let mut at = wide(plus[wide(u)]);
-    loop {
-        match head_from(row, off, plus, u, k, at) {
-            Head::End => return tail,
-            Head::To(v, x, y) => {
-                tail = relax(order, deg, v, tail);
-                k = x;
-                at = y;
-            }
-        }
+    for v in heads {
+        tail = relax(order, deg, v, tail);
     }
+    tail
 }
 
 // Whether what is on has a line-up.
-pub fn lines_up(e: &[u16], off: &[u16], plus: &[u16], n: usize) -> bool
-    requires { (length e.now ≡ edges_length) × Falls most_entries off.now × Falls most_entries plus.now × (n ≤ most_jobs) }
-    ensures { Lines e.now off.now plus.now n result }
+pub fn lines_up(view: View, n: usize) -> bool
+    requires { Views view × (n ≤ most_jobs) }
+    ensures { Lines view.entry.live.now view.entry.off.now view.entry.plus.now n result }
 {
     let mut count = [0u16; Plan::JOBS];
     let mut order = [0u16; Plan::JOBS];
     let mut deg = [0u16; Plan::JOBS];
-    tally(e, off, plus, &mut count, n);
+    tally(view, &mut count, n);
     let mut tail = begin(&count, &mut order, &mut deg, n);
-    let mut head: usize = 0;
+    let mut head = 0;
+    // A `while`: the order grows while it is passed, so no range or row stands still to go over.
     while head < tail {
         let u = order[head];
-        let k = wide(u);
-        if n <= k {
+        if n <= usize::from(u) {
             return false;
         }
-        tail = tells(successors(e, k), off, plus, u, &mut order, &mut deg, tail);
-        head = head + 1;
+        tail = tells(heads_from(view, u), &mut order, &mut deg, tail);
+        head += 1;
     }
     tail == n
 }

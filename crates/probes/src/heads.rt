@@ -1,35 +1,54 @@
 // Where the edges of a job lead that are on, one after the other: those of its live row that stay, then those that come on.
-ghost use Rattle.std.specs.Prelude.{◌<◌, ◌≤◌};
-ghost use Rattle.rules.specs.Sizes.{most_entries, most_jobs};
-ghost use Rattle.probes.specs.Chains.{Falls};
-ghost use Rattle.probes.specs.Aheads.{Heads};
+#![tactic(auto, using(crate::proofs::Nexts::looking))]
 
-use crate::chain::{HEADS, NEXTS};
-use crate::view::is_on;
-use words::wide;
+ghost use Rattle.std.specs.Prelude.{◌<◌};
+ghost use Rattle.std.specs.Iterator.{YieldsFirst, item_count};
+ghost use Rattle.rules.specs.Sizes.{most_jobs};
+ghost use Rattle.probes.specs.Aheads.{Sees, Views, Walks, heads_left};
 
-#[derive(Clone, Copy)]
-pub enum Head {
-    // A job; the place of the row and the link of the set from which to go on.
-    To(u16, usize, usize),
-    End,
+use crate::chain::{Leads, leads_from};
+use crate::view::{View, is_on};
+use edges::lists::successors;
+
+#[derive(Drop)]
+pub struct Heads<'a> {
+    view: View<'a>,
+    u: u16,
+    // What is left of the live row, and of those that come on.
+    row: &'a [u16],
+    plus: Leads<'a>,
 }
 
-// The next job to which an edge from u leads that is on.
-pub fn head_from(row: &[u16], off: &[u16], plus: &[u16], u: u16, from: usize, at: usize) -> Head
-    requires { Falls most_entries off.now × Falls most_entries plus.now × (u < most_jobs) × (at ≤ most_entries) }
-    ensures { Heads row.now off.now plus.now u from at result }
-{
-    let mut k = from;
-    while k < row.len() {
-        if is_on(row, off, u, k) {
-            return Head::To(row[k], k + 1, at);
+impl<'a> Iterator for Heads<'a> {
+    type Item = u16;
+
+    ghost can_next = { Walks };
+
+    ghost next_gives = { YieldsFirst heads_left };
+
+    ghost remaining = { item_count heads_left };
+
+    fn next(&mut self) -> Option<u16> {
+        while let Some((v, rest)) = self.row.split_first() {
+            self.row = rest;
+            if is_on(self.view, self.u, *v) {
+                return Some(*v);
+            }
         }
-        k = k + 1;
+        self.plus.next()
     }
-    if at == 0 {
-        return Head::End;
+}
+
+// Where the edges from u lead that are on.
+pub fn heads_from(view: View<'_>, u: u16) -> Heads<'_>
+    requires { Views view × (u < most_jobs) }
+    ensures walks { Walks result }
+    ensures sees { Sees view.entry.live.now view.entry.off.now view.entry.plus.now u (heads_left result) }
+{
+    Heads {
+        view,
+        u,
+        row: successors(view.live, usize::from(u)),
+        plus: leads_from(view.plus, u),
     }
-    let j = at - 1;
-    Head::To(plus[HEADS + j], k, wide(plus[NEXTS + j]))
 }

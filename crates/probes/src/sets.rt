@@ -1,6 +1,8 @@
 // What a move turns off, and what it adds that is not live yet.
-ghost use Rattle.std.specs.Prelude.{◌≡◌, ◌+◌, ◌<◌, ◌≤◌, true, [], ◌∷◌, length};
-ghost use Rattle.rules.specs.Lists.{all_below, memb};
+#![tactic(auto, using(crate::proofs::Turning::turning))]
+
+ghost use Rattle.std.specs.Prelude.{◌≡◌, ◌+◌, ◌-◌, ◌<◌, ◌≤◌, true, [], ◌∷◌, length};
+ghost use Rattle.rules.specs.Lists.{all_below};
 ghost use Rattle.rules.specs.Moves.{neighbours};
 ghost use Rattle.rules.specs.Sizes.{edges_length, most_entries, most_jobs};
 ghost use Rattle.probes.specs.Chains.{Falls, Links};
@@ -9,7 +11,6 @@ ghost use Rattle.probes.specs.Gathered.{goes_off, comes_on};
 use crate::chain::{holds, link};
 use crate::fixed::is_fixed;
 use edges::lists::successors;
-use words::wide;
 
 // An old edge, at place k, is off if it occurs nowhere among the new and is not fixed.
 fn turn_off(from: &[u32], to: &[u32], new: &[u16], off: &mut [u16], k: usize, u: u16, v: u16)
@@ -20,38 +21,23 @@ fn turn_off(from: &[u32], to: &[u32], new: &[u16], off: &mut [u16], k: usize, u:
     if holds(new, u, v) {
         return;
     }
-    if is_fixed(from, to, u as u32, v as u32) {
+    if is_fixed(from, to, u32::from(u), u32::from(v)) {
         return;
     }
     link(off, k, u, v);
 }
 
 // Of the edges between old neighbours those that are off.
+#[tactic(auto, using(crate::proofs::Chaining::linking))]
 pub fn turned_off(from: &[u32], to: &[u32], old: &[u16], new: &[u16], off: &mut [u16])
     requires { (length from.now ≡ length to.now) × (length old.now ≤ most_entries) × (all_below most_jobs old.now ≡ true)
         × Falls most_entries new.now × Falls 0 off.old }
     ensures { Links (goes_off from.now to.now new.now) (neighbours old.now) most_entries
         off.old off.new }
 {
-    let mut i: usize = 0;
-    while i + 1 < old.len() {
-        turn_off(from, to, new, off, i, old[i], old[i + 1]);
-        i = i + 1;
+    for i in 1..old.len() {
+        turn_off(from, to, new, off, i - 1, old[i - 1], old[i]);
     }
-}
-
-// Whether v stands in a row.
-fn among(row: &[u16], v: u16) -> bool
-    ensures { result ≡ memb v row.now }
-{
-    let mut k: usize = 0;
-    while k < row.len() {
-        if row[k] == v {
-            return true;
-        }
-        k = k + 1;
-    }
-    false
 }
 
 // A new edge, at place k, comes on if it occurs nowhere among the old, was not met before, and is not live.
@@ -62,25 +48,24 @@ fn turn_on(e: &[u16], old: &[u16], plus: &mut [u16], k: usize, u: u16, v: u16)
     if holds(old, u, v) {
         return;
     }
-    if holds(&plus[..], u, v) {
+    if holds(plus, u, v) {
         return;
     }
-    if among(successors(e, wide(u)), v) {
+    if successors(e, usize::from(u)).contains(&v) {
         return;
     }
     link(plus, k, u, v);
 }
 
 // Of the edges between new neighbours those that come on, each once.
+#[tactic(auto, using(crate::proofs::Chaining::linking))]
 pub fn turned_on(e: &[u16], old: &[u16], new: &[u16], plus: &mut [u16])
     requires { (length e.now ≡ edges_length) × (length new.now ≤ most_entries) × (all_below most_jobs new.now ≡ true)
         × Falls most_entries old.now × Falls 0 plus.old }
     ensures { Links (comes_on e.now old.now) (neighbours new.now) most_entries
         plus.old plus.new }
 {
-    let mut i: usize = 0;
-    while i + 1 < new.len() {
-        turn_on(e, old, plus, i, new[i], new[i + 1]);
-        i = i + 1;
+    for i in 1..new.len() {
+        turn_on(e, old, plus, i - 1, new[i - 1], new[i]);
     }
 }

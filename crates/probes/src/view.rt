@@ -1,37 +1,33 @@
 // What a move leaves on, seen through the live lists: nothing is copied.
-ghost use Rattle.std.specs.Prelude.{◌≡◌};
-ghost use Rattle.probes.specs.Seen.{Seeable, stays_at};
+#![tactic(auto)]
+
+ghost use Rattle.std.specs.Prelude.{◌≡◌, ◌<◌};
+ghost use Rattle.rules.specs.Sizes.{most_entries, most_jobs};
+ghost use Rattle.probes.specs.Chains.{Falls};
+ghost use Rattle.probes.specs.Seen.{stays};
 
 use crate::chain::holds;
 
-// The row of one job's live edges, and the set of those that are off.
+// The words of the live edges, the set of those that go off, and the set of those that come on.
 #[derive(Clone, Copy)]
-pub struct View<'a, 'b> {
+pub struct View<'a> {
     pub live: &'a [u16],
-    pub off: &'b [u16],
+    pub off: &'a [u16],
+    pub plus: &'a [u16],
 }
 
-// The work, on plain parts: whether the live edge from u at this place of its row stays on.
-fn stays_at(live: &[u16], off: &[u16], u: u16, at: usize) -> bool
-    requires { Seeable live.now off.now u at }
-    ensures { result ≡ stays_at live.now off.now u at }
+// The work, on plain parts: whether the live edge from u to v stays on.
+fn stays(off: &[u16], u: u16, v: u16) -> bool
+    requires { Falls most_entries off.now × (u < most_jobs) }
+    ensures { result ≡ stays off.now u v }
 {
-    let v = live[at];
     !holds(off, u, v)
 }
 
 // The struct is taken apart.
-fn stays<'a, 'b>(view: View<'a, 'b>, u: u16, place: usize) -> bool
-    requires { Seeable view.live.now view.off.now u place }
-    ensures { result ≡ stays_at view.entry.live.now view.entry.off.now u place }
+pub fn is_on(view: View, u: u16, v: u16) -> bool
+    requires { Falls most_entries view.off.now × (u < most_jobs) }
+    ensures { result ≡ stays view.entry.off.now u v }
 {
-    stays_at(view.live, view.off, u, place)
-}
-
-// The struct is made, and passed on.
-pub fn is_on(live: &[u16], off: &[u16], u: u16, place: usize) -> bool
-    requires { Seeable live.now off.now u place }
-    ensures { result ≡ stays_at live.now off.now u place }
-{
-    stays(View { live, off }, u, place)
+    stays(view.off, u, v)
 }

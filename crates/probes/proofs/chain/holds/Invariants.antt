@@ -1,8 +1,8 @@
+use Rattle.probes.specs.Aheads.{links_left}
 use Rattle.probes.proofs.Chaining.{Seeking}
 use Rattle.probes.proofs.chain.holds.Given as goal
 
-abbrev pub invariant-loop-at : goal.invariant-loop-at
-invariant-loop-at l = Seeking l.c l.u l.v l.at
-
-abbrev pub decreases-loop-at : goal.decreases-loop-at
-decreases-loop-at l = l.at
+abbrev pub invariant-loop-w : goal.invariant-loop-w
+invariant-loop-w l =
+    (goal.iterator-loop-w).can_next l.w-iterator × (goal.iterator-loop-w).is_finite l.w-iterator
+    × Seeking l.c l.u l.v (links_left l.w-iterator)

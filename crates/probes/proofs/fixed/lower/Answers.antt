@@ -1,37 +1,12 @@
-use Rattle.probes.proofs.Sought.{seeking}
+use Rattle.std.proofs.Common.{ltb, rules}
+use Rattle.std.proofs.lemmas.List.Sorted.{IsNonDecreasingBy-from_default, IsPartitionPoint-from_clause, IsPartitionedBy-ltb}
+use Rattle.probes.proofs.Sought.{parted_at, rises}
 use Rattle.probes.proofs.fixed.lower.Goals as goal
 
--- `lower`. Assumes nothing.
-
-pub loop-lo-init : goal.loop-lo-init
-loop-lo-init c = search seeking
-
-pub overflow_sub-mid : goal.overflow_sub-mid
-overflow_sub-mid c = search seeking
-
-pub overflow_add-mid : goal.overflow_add-mid
-overflow_add-mid c = search seeking
-
-pub offset_bounds-from-mid : goal.offset_bounds-from-mid
-offset_bounds-from-mid c = search seeking
-
-pub bounds-from-mid : goal.bounds-from-mid
-bounds-from-mid c = search seeking
-
-pub overflow_add-lo : goal.overflow_add-lo
-overflow_add-lo c = search seeking
-
-pub loop-lo-smaller-then-from-mid : goal.loop-lo-smaller-then-from-mid
-loop-lo-smaller-then-from-mid c = search seeking
-
-pub loop-lo-preserved-then-from-mid : goal.loop-lo-preserved-then-from-mid
-loop-lo-preserved-then-from-mid c = search seeking
-
-pub loop-lo-smaller : goal.loop-lo-smaller
-loop-lo-smaller c = search seeking
-
-pub loop-lo-preserved : goal.loop-lo-preserved
-loop-lo-preserved c = search seeking
-
 pub returns : goal.returns
-returns c = search seeking
+returns c =
+    let from = c.args.from.now in
+    let u = c.args.u in
+    parted_at from u c.partition_point.result c.partition_point.ensures.bound
+    (λ r. IsPartitionPoint-from_clause (λ y. ltb y u) from _ c.partition_point.ensures.partitioned
+    (IsPartitionedBy-ltb (λ y. y) from u (IsNonDecreasingBy-from_default (λ y. y) from 0 (rises from u r))) (λ a x q k. search rules))

@@ -1,61 +1,19 @@
-use Rattle.probes.proofs.Lineups.{lining_up}
+use Rattle.std.proofs.Common.{refl, ◌∙◌}
+use Rattle.probes.proofs.Lineups.{lined_done, lined_next, lined_none, lined_out}
 use Rattle.probes.proofs.full.lines_up.Goals as goal
 
--- `lines_up`. Assumes nothing.
-
-pub slice_bounds-tally-end : goal.slice_bounds-tally-end
-slice_bounds-tally-end c = search lining_up
-
-pub tally-requires : goal.tally-requires
-tally-requires c = search lining_up
-
-pub slice_bounds-begin-end : goal.slice_bounds-begin-end
-slice_bounds-begin-end c = search lining_up
-
-pub slice_bounds-begin-end-2 : goal.slice_bounds-begin-end-2
-slice_bounds-begin-end-2 c = search lining_up
-
-pub slice_bounds-begin-end-3 : goal.slice_bounds-begin-end-3
-slice_bounds-begin-end-3 c = search lining_up
-
-pub begin-tail-requires : goal.begin-tail-requires
-begin-tail-requires c = search lining_up
-
 pub loop-head-init : goal.loop-head-init
-loop-head-init c = search lining_up
+loop-head-init c = (c.begin-tail.auto.order, c.begin-tail.auto.deg, lined_none c.begin-tail.ensures c.tally.ensures c.requires.1)
 
-pub offset_bounds-order-head : goal.offset_bounds-order-head
-offset_bounds-order-head c = search lining_up
-
-pub bounds-order-head : goal.bounds-order-head
-bounds-order-head c = search lining_up
-
-pub wide-k-requires : goal.wide-k-requires
-wide-k-requires c = search lining_up
-
-pub returns-then-n-k : goal.returns-then-n-k
-returns-then-n-k c = search lining_up
-
-pub successors-requires : goal.successors-requires
-successors-requires c = search lining_up
-
-pub slice_bounds-tells-end : goal.slice_bounds-tells-end
-slice_bounds-tells-end c = search lining_up
-
-pub slice_bounds-tells-end-in-loop-head : goal.slice_bounds-tells-end-in-loop-head
-slice_bounds-tells-end-in-loop-head c = search lining_up
-
-pub tells-tail-requires : goal.tells-tail-requires
-tells-tail-requires c = (search lining_up, search lining_up, search lining_up, search lining_up, search lining_up, search lining_up)
-
-pub overflow_add-head : goal.overflow_add-head
-overflow_add-head c = search lining_up
-
-pub loop-head-smaller : goal.loop-head-smaller
-loop-head-smaller c = search lining_up
+pub returns-then-n-from : goal.returns-then-n-from
+returns-then-n-from c = lined_out c.loop-head.invariant.2 c.loop-head.invariant.0 c.loop-head-test.true refl (rw c.from.ensures at c.if-n-from.true)
 
 pub loop-head-preserved : goal.loop-head-preserved
-loop-head-preserved c = search lining_up
+loop-head-preserved c = (
+  c.tells-tail.auto.order ∙ c.loop-head.invariant.0,
+  c.tells-tail.auto.deg ∙ c.loop-head.invariant.1,
+  lined_next c.tells-tail.ensures c.loop-head.invariant.2 c.heads_from.ensures.sees refl c.loop-head-test.true c.requires.1 c.loop-head.invariant.0,
+)
 
 pub returns : goal.returns
-returns c = search lining_up
+returns c = lined_done c.loop-head.invariant.2 c.loop-head.invariant.0 c.loop-head-test.false

@@ -1,12 +1,11 @@
 use Rattle.std.proofs.Common.{◌≡◌, ◌≤◌, length}
-use Rattle.rules.specs.Sizes.{most_entries, most_jobs}
-use Rattle.probes.specs.Aheads.{heads_from}
+use Rattle.rules.specs.Sizes.{most_jobs}
+use Rattle.probes.specs.Aheads.{heads_left}
 use Rattle.probes.proofs.Lineups.{Telling}
 use Rattle.probes.proofs.full.tells.Given as goal
 
 abbrev pub invariant-loop-v : goal.invariant-loop-v
 invariant-loop-v l =
-    (length l.order ≡ most_jobs) × (length l.deg ≡ most_jobs) × (l.tail ≤ most_jobs) × (l.at ≤ most_entries) × Telling l.row l.off l.plus l.u l.start l.initial.order l.initial.deg l.k l.at l.tail l.order l.deg
-
-abbrev pub decreases-loop-v : goal.decreases-loop-v
-decreases-loop-v l = length (heads_from l.row l.off l.plus l.u l.k l.at)
+    (goal.iterator-loop-v).can_next l.v-iterator × (goal.iterator-loop-v).is_finite l.v-iterator
+    × (length l.order ≡ most_jobs) × (length l.deg ≡ most_jobs) × (l.tail ≤ most_jobs)
+    × Telling (heads_left l.fn.heads) l.start l.initial.order l.initial.deg (heads_left l.v-iterator) l.tail l.order l.deg

@@ -1,73 +1,20 @@
-use Rattle.probes.proofs.Backways.{spreading}
+use Rattle.std.proofs.Common.{◌+◌, ◌%◌, get_or, refl, ap, ◌∙◌}
+use lib.ListN.{length-set}
+use Rattle.probes.proofs.Backways.{spreading_done, spreading_next, spreading_none, spreading_out}
 use Rattle.probes.proofs.quick.leads.Goals as goal
 
--- `leads`. Assumes nothing.
-
-pub bounds-queue-0 : goal.bounds-queue-0
-bounds-queue-0 c = search spreading
-
-pub wide-requires : goal.wide-requires
-wide-requires c = search spreading
-
-pub offset_bounds-dist-wide : goal.offset_bounds-dist-wide
-offset_bounds-dist-wide c = search spreading
-
-pub bounds-dist-wide : goal.bounds-dist-wide
-bounds-dist-wide c = search spreading
-
 pub loop-head-init : goal.loop-head-init
-loop-head-init c = search spreading
-
-pub offset_bounds-queue-head : goal.offset_bounds-queue-head
-offset_bounds-queue-head c = search spreading
-
-pub bounds-queue-head : goal.bounds-queue-head
-bounds-queue-head c = search spreading
-
-pub wide-k-requires : goal.wide-k-requires
-wide-k-requires c = search spreading
+loop-head-init c = (refl, simp length-set refl, rw c.from.ensures (spreading_none _ _ _ c.args.v c.args.n c.requires.1 c.requires.2))
 
 pub returns-then-n-k : goal.returns-then-n-k
-returns-then-n-k c = search spreading
-
-pub offset_bounds-dist-k : goal.offset_bounds-dist-k
-offset_bounds-dist-k c = search spreading
-
-pub bounds-dist-k : goal.bounds-dist-k
-bounds-dist-k c = search spreading
-
-pub wrapping_add_u16-d-requires : goal.wrapping_add_u16-d-requires
-wrapping_add_u16-d-requires c = search spreading
-
-pub successors-requires : goal.successors-requires
-successors-requires c = search spreading
-
-pub slice_bounds-meets-end : goal.slice_bounds-meets-end
-slice_bounds-meets-end c = search spreading
-
-pub slice_bounds-meets-end-in-loop-head : goal.slice_bounds-meets-end-in-loop-head
-slice_bounds-meets-end-in-loop-head c = search spreading
-
-pub meets-tail-requires : goal.meets-tail-requires
-meets-tail-requires c = search spreading
-
-pub overflow_add-head : goal.overflow_add-head
-overflow_add-head c = search spreading
-
-pub loop-head-smaller : goal.loop-head-smaller
-loop-head-smaller c = search spreading
+returns-then-n-k c = spreading_out c.loop-head.invariant.2 c.loop-head.invariant.0 c.loop-head-test.true refl (rw c.from-k.ensures at c.if-n-k.true)
 
 pub loop-head-preserved : goal.loop-head-preserved
-loop-head-preserved c = search spreading
-
-pub wide-requires-2 : goal.wide-requires-2
-wide-requires-2 c = search spreading
-
-pub offset_bounds-dist-wide-2 : goal.offset_bounds-dist-wide-2
-offset_bounds-dist-wide-2 c = search spreading
-
-pub bounds-dist-wide-2 : goal.bounds-dist-wide-2
-bounds-dist-wide-2 c = search spreading
+loop-head-preserved c = (
+  c.meets-tail.auto.queue ∙ c.loop-head.invariant.0,
+  c.meets-tail.auto.dist ∙ c.loop-head.invariant.1,
+  spreading_next c.meets-tail.ensures c.loop-head.invariant.2 c.heads_from.ensures.sees (ap (λ k. (get_or c.loop-head.dist k 0 + 1) % 65536) c.from-k.ensures) refl c.loop-head-test.true c.requires.1 c.loop-head.invariant.0,
+)
 
 pub returns : goal.returns
-returns c = search spreading
+returns c = rw c.from-2.ensures (spreading_done c.loop-head.invariant.2 c.loop-head.invariant.0 c.loop-head-test.false c.requires.2 c.requires.3)

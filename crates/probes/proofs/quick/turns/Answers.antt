@@ -1,43 +1,9 @@
-use Rattle.probes.proofs.Backways.{trying}
+use Rattle.std.proofs.Common.{arith}
+use Rattle.probes.proofs.Backways.{trying_done, trying_hit}
 use Rattle.probes.proofs.quick.turns.Goals as goal
 
--- `turns`. Assumes nothing.
-
-pub loop-i-init : goal.loop-i-init
-loop-i-init c = search trying
-
-pub overflow_add-i : goal.overflow_add-i
-overflow_add-i c = search trying
-
-pub offset_bounds-jobs-i : goal.offset_bounds-jobs-i
-offset_bounds-jobs-i c = search trying
-
-pub bounds-jobs-i : goal.bounds-jobs-i
-bounds-jobs-i c = search trying
-
-pub overflow_add-i-in-loop-i : goal.overflow_add-i-in-loop-i
-overflow_add-i-in-loop-i c = search trying
-
-pub offset_bounds-jobs-i-in-loop-i : goal.offset_bounds-jobs-i-in-loop-i
-offset_bounds-jobs-i-in-loop-i c = search trying
-
-pub bounds-jobs-i-in-loop-i : goal.bounds-jobs-i-in-loop-i
-bounds-jobs-i-in-loop-i c = search trying
-
-pub closes-requires : goal.closes-requires
-closes-requires c = search trying
-
 pub returns-then-closes : goal.returns-then-closes
-returns-then-closes c = search trying
-
-pub overflow_add-i-in-loop-i-2 : goal.overflow_add-i-in-loop-i-2
-overflow_add-i-in-loop-i-2 c = search trying
-
-pub loop-i-smaller : goal.loop-i-smaller
-loop-i-smaller c = search trying
-
-pub loop-i-preserved : goal.loop-i-preserved
-loop-i-preserved c = search trying
+returns-then-closes c = trying_hit c.loop-i.invariant (omega arith) c.loop-i-test.true c.closes.ensures c.if-closes.true
 
 pub returns : goal.returns
-returns c = search trying
+returns c = trying_done c.loop-i.invariant (omega arith) c.loop-i-test.false

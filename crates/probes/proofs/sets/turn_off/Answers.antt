@@ -1,25 +1,15 @@
-use Rattle.probes.proofs.Turning.{turning}
+use Rattle.probes.proofs.Turning.{off_fixed, off_goes, off_there}
 use Rattle.probes.proofs.sets.turn_off.Goals as goal
 
--- `turn_off`. Assumes nothing.
-
-pub holds-requires : goal.holds-requires
-holds-requires c = search turning
-
 pub returns-then-holds : goal.returns-then-holds
-returns-then-holds c = search turning
-
-pub is_fixed-requires : goal.is_fixed-requires
-is_fixed-requires c = search turning
+returns-then-holds c = off_there _ _ _ _ _ _ _ c.requires.2 _ c.holds.ensures c.if-holds.true
 
 pub returns-then-is_fixed : goal.returns-then-is_fixed
-returns-then-is_fixed c = search turning
-
-pub link-requires : goal.link-requires
-link-requires c = search turning
-
-pub shape_of-off : goal.shape_of-off
-shape_of-off c = search turning
+returns-then-is_fixed c =
+    off_fixed _ _ _ _ _ _ _ c.requires.2 _ c.holds.ensures c.if-holds.false _
+    (λ r. rw (c.from.ensures, c.from-2.ensures) at (c.is_fixed.ensures r)) c.if-is_fixed.true
 
 pub returns : goal.returns
-returns c = search turning
+returns c =
+    off_goes _ _ _ _ _ _ _ c.requires.2 _ c.holds.ensures c.if-holds.false _
+    (λ r. rw (c.from.ensures, c.from-2.ensures) at (c.is_fixed.ensures r)) c.if-is_fixed.false c.link.ensures

@@ -1,10 +1,6 @@
-use Rattle.std.proofs.Common.{◌-◌, ◌≤◌, length}
 use Rattle.probes.specs.Gathered.{goes_off}
 use Rattle.probes.proofs.Chaining.{Linking}
 use Rattle.probes.proofs.sets.turned_off.Given as goal
 
 abbrev pub invariant-loop-i : goal.invariant-loop-i
-invariant-loop-i l = (l.i ≤ length l.old) × Linking (goes_off l.from l.to l.new) l.old l.initial.off l.i l.off
-
-abbrev pub decreases-loop-i : goal.decreases-loop-i
-decreases-loop-i l = length l.old - l.i
+invariant-loop-i l = Linking (goes_off l.from l.to l.new) l.old l.initial.off l.i l.off
