@@ -42,18 +42,6 @@ latest_all sp st {i} {n} a b e = let q : i ≡ n = omega arith in rw q at e
 
 -- ── words ──
 
--- all that follows the first k words is 0
-filled : (k m : ℕ) (ts : List ℕ) → length ts ≡ k + m → sets ts k (replicate m 0) ≡ take k ts ++ replicate m 0
-filled k m ts h =
-    let r = length-replicate {A = ℕ} m 0 in
-    let e : drop (k + length (replicate {A = ℕ} m 0)) ts ≡ [] = drop_of_length-le ts {i = k + length (replicate {A = ℕ} m 0)} (omega arith) in
-    sets-eq (replicate m 0) ts k (omega arith) ∙ rw (e, append-nil)
-
-pub stop_is : (ts : List ℕ) {ts₁ : List ℕ} → ts₁ ≡ sets ts makespan_place (replicate (times_length - makespan_place) 0) → length ts ≡ times_length
-    → set ts₁ cyclic_place 1 ≡ 1 ∷ 0 ∷ replicate most_jobs 0
-stop_is [] e h = let f : ⊥ = omega arith in absurd f
-stop_is (x ∷ l) e h = ap (λ (y : List ℕ). set y cyclic_place 1) (e ∙ filled makespan_place (times_length - makespan_place) (x ∷ l) h)
-
 -- the starts are all that follows the first two words
 starts_all : (ts : List ℕ) → length ts ≡ times_length → starts_in ts ≡ drop starts_place ts
 starts_all ts h = let a = length-drop starts_place ts in take_all most_jobs (drop starts_place ts) (omega arith)
@@ -77,11 +65,6 @@ starts_back ts st h k =
     let b : length (starts_in ts) ≡ length (drop starts_place ts) = ap length (starts_all ts h) in
     ap (take most_jobs) (drop_at (take starts_place ts) (st ++ drop most_jobs (drop starts_place ts)) starts_place (length-take-le starts_place ts (omega arith)))
     ∙ take_at st (drop most_jobs (drop starts_place ts)) most_jobs (omega arith)
-
-starts_zeroed : (ts : List ℕ) {ts₁ : List ℕ} → length ts ≡ times_length → ts₁ ≡ sets ts starts_place (replicate most_jobs 0) → starts_in ts₁ ≡ replicate most_jobs 0
-starts_zeroed ts h e = ap starts_in (e ∙ filled starts_place most_jobs ts h)
-    ∙ ap (take most_jobs) (drop_at (take starts_place ts) (replicate most_jobs 0) starts_place (length-take-le starts_place ts (omega arith)))
-    ∙ take_all most_jobs (replicate most_jobs 0) (omega (arith, length-replicate {A = ℕ} most_jobs 0))
 
 -- ── all anew ──
 
@@ -117,12 +100,15 @@ module _ {e sp st : List ℕ} {n : ℕ} {r : Bool} {st' : List ℕ} (F : Fully e
         };
   }
 
-pub renews_all : {e sp : List ℕ} (ts ts₁ : List ℕ) {n : ℕ} {r : Bool} {st' ts' : List ℕ} → Fully e sp zeros (starts_in ts₁) n r st'
-    → ts' ≡ 0 ∷ latest_of sp (starts_in (lent ts₁ st')) n ∷ starts_in (lent ts₁ st') → r ≡ true → ts₁ ≡ sets ts starts_place (replicate most_jobs 0)
-    → length ts ≡ times_length → length ts₁ ≡ length ts → length st' ≡ length (starts_in ts₁) → Renews e sp n Full ts'
-renews_all ts ts₁ {st'} F w q f h h₁ k =
-    let z = starts_zeroed ts h f in
-    renews_calm F (rw (starts_back ts₁ st' (h₁ ∙ h) k) at w) q (k ∙ ap length z ∙ length-replicate {A = ℕ} most_jobs 0) z
+pub renews_all : {e sp : List ℕ} (ts : List ℕ) {n : ℕ} {r : Bool} {st st' ts' : List ℕ} → Fully e sp zeros st n r st'
+    → ts' ≡ 0 ∷ latest_of sp (starts_in (lent ts st')) n ∷ starts_in (lent ts st') → r ≡ true → st ≡ replicate (length (starts_in ts)) 0
+    → length ts ≡ times_length → length st' ≡ length st → Renews e sp n Full ts'
+renews_all ts {st} {st'} F w q f h k =
+    let a = length-drop starts_place ts in
+    let i : length (starts_in ts) ≡ most_jobs = ap length (starts_all ts h) ∙ omega arith in
+    let z : st ≡ replicate most_jobs 0 = rw i at f in
+    let j : length st' ≡ most_jobs = k ∙ ap length z ∙ length-replicate {A = ℕ} most_jobs 0 in
+    renews_calm F (rw (starts_back ts st' h (j ∙ sym i)) at w) q j z
 
 -- ── mended ──
 
@@ -219,4 +205,4 @@ pub starts_long : (ts : List ℕ) {r : List ℕ} {n : ℕ} → r ≡ starts_in t
 starts_long ts e h k = rw (e, starts_all ts h) (let a = length-drop starts_place ts in omega arith)
 
 -- what the functions of settle.rt are proved by
-pub ruleset settling = (rules, length-take-le, starts_long, visits_fit, latest_none, latest_more, latest_all, stop_is, go_is, renews_none, renews_all, mends_walked, refreshes_none, refreshes_anew, refreshes_found, refreshes_walked)
+pub ruleset settling = (rules, length-take-le, starts_long, visits_fit, latest_none, latest_more, latest_all, go_is, renews_none, renews_all, mends_walked, refreshes_none, refreshes_anew, refreshes_found, refreshes_walked)

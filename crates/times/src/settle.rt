@@ -11,7 +11,6 @@ use rules::{Plan, Report};
 use starts::backs::judge;
 use starts::full;
 use starts::walks::walk;
-use words::fill;
 
 // The greatest finish.
 fn latest(spans: &[u64], starts: &[u64], n: usize) -> u64
@@ -30,7 +29,7 @@ fn stop(times: &mut [u64])
     requires { length times.old ≡ times_length }
     ensures { times.new ≡ 1 ∷ 0 ∷ replicate most_jobs 0 }
 {
-    fill(times, MAKESPAN, Plan::TIMES, 0);
+    times.fill(0);
     times[CYCLIC] = 1;
 }
 
@@ -50,8 +49,9 @@ pub fn anew(edges: &[u16], spans: &[u64], times: &mut [u64], n: usize) -> Report
     requires { (length edges.now ≡ edges_length) × (length spans.now ≡ spans_length) × (length times.old ≡ times_length) × (n ≤ most_jobs) }
     ensures { Renews edges.now spans.now n result times.new }
 {
-    fill(times, STARTS, Plan::TIMES, 0);
-    if full(edges, spans, &mut times[STARTS..Plan::TIMES], n) {
+    let starts = &mut times[STARTS..Plan::TIMES];
+    starts.fill(0);
+    if full(edges, spans, starts, n) {
         go(spans, times, n);
         return Report::Full;
     }
