@@ -193,10 +193,6 @@ module _ {f g : List ℕ} {n : ℕ} (L : Listing f g n) where
       = sym (ap (λ (x : List ℕ). adding G.model (valid n x (drop i g))) (drop_of_length-le f h)) ∙ G.left in
       record { list = G.list; draft = subst (λ (m : Model). Drafts m G.list e d) z G.draft }
 
--- the length stays
-pub e_same : {f g : List ℕ} {n i : ℕ} {e₀ e : List ℕ} {d₀ d : Draft} → Blank e₀ d₀ → Going f g n i e d → length e ≡ length e₀
-e_same B G = drafts.e_long G.draft ∙ sym (ap length B.words ∙ drafts.zeros_long edges_length)
-
 -- ── for the whole ──
 
 module _ {f g : List ℕ} {n : ℕ} {e : List ℕ} {d : Draft} (G : Gathered f g n e d) where

@@ -27,23 +27,13 @@ part_is a f t l h k =
     let e : a + t - (a + f) ≡ t - f = omega arith in
     rw (e, ← drop-drop f a l, take-take t most_edges (drop a l) k) (between f t (drop a l) h)
 
-module _ (o a i : ℕ) (l : List ℕ) where
-  pub row_out : most_jobs ≤ i → Rowed o a i l []
-  row_out h = record { short = omega arith; none = λ k. refl; some = λ f t ef et k r b. absurd (let z : ⊥ = omega arith in z) }
-
-  module _ (f t : ℕ) (ef : f ≡ get_or l (o + i) 0) (et : t ≡ get_or l (o + i + 1) 0) where
-    pub row_falling : t < f → Rowed o a i l []
-    row_falling h = record { short = omega arith; none = λ k. refl; some = λ f' t' ef' et' k r b. absurd (let z : ⊥ = omega arith in z) }
-
-    pub row_beyond : most_edges < t → Rowed o a i l []
-    row_beyond h = record { short = omega arith; none = λ k. refl; some = λ f' t' ef' et' k r b. absurd (let z : ⊥ = omega arith in z) }
-
-    pub row_there : i < most_jobs → f ≤ t → t ≤ most_edges → Rowed o a i l (take (a + t - (a + f)) (drop (a + f) l))
-    row_there h r b = record {
-      short = omega (arith, length-take (a + t - (a + f)) (drop (a + f) l));
-      none = λ k. absurd (let z : ⊥ = omega arith in z);
-      some = λ f' t' ef' et' k r' b'. rw (ef' ∙ sym ef, et' ∙ sym et) (part_is a f t l r b);
-    }
+module _ (o a i : ℕ) (l : List ℕ) (f t : ℕ) (ef : f ≡ get_or l (o + i) 0) (et : t ≡ get_or l (o + i + 1) 0) where
+  pub row_there : i < most_jobs → f ≤ t → t ≤ most_edges → Rowed o a i l (take (a + t - (a + f)) (drop (a + f) l))
+  row_there h r b = record {
+    short = omega (arith, length-take (a + t - (a + f)) (drop (a + f) l));
+    none = λ k. absurd (let z : ⊥ = omega arith in z);
+    some = λ f' t' ef' et' k r' b'. rw (ef' ∙ sym ef, et' ∙ sym et) (part_is a f t l r b);
+  }
 
 -- ── the row of a model ──
 

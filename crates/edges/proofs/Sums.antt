@@ -6,8 +6,6 @@ use native.Mathlib.Omega.{arith}
 use native.Mathlib.Numerals.{add-one}
 use lib.ListN.{length, get_or, set, drop, length-append, length-set, drop_of_length-le}
 use lib.Seq.{sets, sets-eq, drop-cons}
-use mir.Syntax.{w16}
-use mir.Val.{Fits}
 use Rattle.edges.specs.Rows.{flat, offs}
 use Rattle.edges.specs.Drafting.{running, sum}
 
@@ -29,16 +27,7 @@ pub record Summing (a₀ d a : List ℕ) (s i : ℕ) : Type 0 where
   pub fits : s + sum (drop i d) ≤ 65535
   pub left : sets a i (running s (drop i d)) ≡ sets a₀ 0 (running 0 d)
 
-pub summing : (a d : List ℕ) → sum d ≤ 65535 → Summing a d a 0 0
-summing a d h = record { passed = omega arith; long = refl; fits = omega arith; left = refl }
-
 module _ {a₀ d a : List ℕ} {s i : ℕ} (S : Summing a₀ d a s i) where
-  pub next_fits : i < length d → Fits w16 (s + get_or d i 0)
-  next_fits h = let x = rw (drop-cons d i 0 h) at S.fits in record { fits = omega arith }
-
-  pub sums_long : length (set a (length d) s) ≡ length a₀
-  sums_long = length-set a (length d) s ∙ S.long
-
   pub one_more : i < length d → Summing a₀ d (set a i s) (s + get_or d i 0) (i + 1)
   unfolding running
   one_more h = record {

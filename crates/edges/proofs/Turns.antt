@@ -1,5 +1,5 @@
 -- The predecessors: each edge goes to the next place of its head's row, and then the words hold the model. Assumes nothing.
-use Prim.Native.Nat.{ℕ, zero, suc, ◌+◌, ◌-◌, ◌*◌, ◌≤◌, ◌<◌}
+use Prim.Native.Nat.{ℕ, zero, suc, ◌+◌, ◌-◌, ◌≤◌, ◌<◌}
 use mathlib.Core.Path.{◌≡◌, refl, sym, ap, ◌∙◌}
 use mathlib.Core.Bool.{Bool, true, false, cond}
 use mathlib.Core.List.{List, [], ◌∷◌, ◌++◌, map, append_assoc, append-nil, map-id}
@@ -10,7 +10,7 @@ use lib.Dec.{eqb}
 use lib.ListN.{length, get_or, set, take, drop, replicate, length-append, length-map, length-replicate, take-append-drop, get_or-map, drop_of_length-le, replicate-append-replicate}
 use lib.Seq.{drop-cons, take-suc, take_all, get_or-take, length-take-le}
 use borrow.Author.Tests.{eq-eqb, ne_eqb}
-use mir.Syntax.{w16, w64}
+use mir.Syntax.{w16}
 use mir.Val.{Fits}
 use Rattle.rules.specs.Lists.{Pair, table}
 use Rattle.rules.specs.Reports.{head_of}
@@ -280,12 +280,6 @@ module _ {e₀ tails next₀ e next : List ℕ} {i : ℕ} (S : Spreading e₀ ta
   pub scattered : length tails ≤ i → Scattered e₀ tails next₀ e
   scattered h = record { is = λ m l T. spread_all T (S.spread m l T) h }
 
-  pub e_same : length e ≡ length e₀
-  e_same = S.e_long ∙ sym (spreading S.known).e_long
-
-  pub next_same : length next ≡ length next₀
-  next_same = S.next_long ∙ sym (spreading S.known).next_long
-
   module _ (more : i < length tails) where
     pub head_in : heads_at + i < length e
     head_in = omega (arith, few now, S.e_long)
@@ -296,9 +290,6 @@ module _ {e₀ tails next₀ e next : List ℕ} {i : ℕ} (S : Spreading e₀ ta
 
       pub next_fits : Fits w16 (get_or next v 0 + 1)
       next_fits = record { fits = omega (arith, place_within now so_far more v _ ev refl) }
-
-      pub place_scaled : Fits w64 (v * 2)
-      place_scaled = record { fits = omega (arith, place_in, S.next_long) }
 
       module _ {p : ℕ} (ep : p ≡ get_or next v 0) where
         pub tail_in : tails_at + p < length e

@@ -90,6 +90,7 @@ pub fn count(e: &[u16], from: Job, to: Job) -> u16
 }
 
 // Puts x at place k of the w words from a on.
+#[tactic(auto, using(crate::proofs::Steps::ins_is))]
 fn ins(e: &mut [u16], a: usize, w: usize, k: usize, x: u16)
     requires { (a + w ≤ length e.old) × (k < w) }
     ensures { e.new ≡ ins_in a w k x e.old }
@@ -98,6 +99,7 @@ fn ins(e: &mut [u16], a: usize, w: usize, k: usize, x: u16)
 }
 
 // One more at each place from k on of the starts that lie at a.
+#[tactic(auto, using(crate::proofs::Steps::ups_is))]
 fn ups(e: &mut [u16], a: usize, k: usize)
     requires { a + starts_length ≤ length e.old }
     ensures { e.new ≡ up_in a k e.old }
@@ -106,6 +108,7 @@ fn ups(e: &mut [u16], a: usize, k: usize)
 }
 
 // A new edge from i to j: at the place t of the successors, and q of the predecessors, of which the first w words are moved.
+#[tactic(auto, using(crate::proofs::Steps::appear_is))]
 fn appear(e: &mut [u16], i: usize, j: usize, w: usize, t: usize, q: usize)
     requires { (length e.old ≡ edges_length) × (i < most_jobs) × (j < most_jobs) × (w ≤ most_edges) × (t < w) × (q < w) }
     ensures { e.new ≡ appear_in i j w t q e.old }
@@ -146,6 +149,7 @@ pub fn add(e: &mut [u16], from: Job, to: Job) -> Result<Added, Senseless>
 }
 
 // Takes place p out of the row that ends at t, in the w words from a on.
+#[tactic(auto, using(crate::proofs::Steps::outs_is))]
 fn outs(e: &mut [u16], a: usize, w: usize, p: usize, t: usize)
     requires { (a + w ≤ length e.old) × (p < t) × (t ≤ w) }
     ensures { e.new ≡ out_in a w p t e.old }
@@ -154,6 +158,7 @@ fn outs(e: &mut [u16], a: usize, w: usize, p: usize, t: usize)
 }
 
 // One less at each place from k on of the starts that lie at a.
+#[tactic(auto, using(crate::proofs::Steps::downs_is))]
 fn downs(e: &mut [u16], a: usize, k: usize)
     requires { a + starts_length ≤ length e.old }
     ensures { e.new ≡ down_in a k e.old }
@@ -162,6 +167,7 @@ fn downs(e: &mut [u16], a: usize, k: usize)
 }
 
 // The edge from i to j goes: from the place p of a row that ends at t, and s of one that ends at v. The first w words are moved.
+#[tactic(auto, using(crate::proofs::Steps::vanish_is))]
 fn vanish(e: &mut [u16], i: usize, j: usize, w: usize, p: usize, t: usize, s: usize, v: usize)
     requires { (length e.old ≡ edges_length) × (i < most_jobs) × (j < most_jobs) × (w ≤ most_edges) × (p < t) × (t ≤ w) × (s < v) × (v ≤ w) }
     ensures { e.new ≡ vanish_in i j w p t s v e.old }

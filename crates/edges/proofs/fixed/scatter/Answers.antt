@@ -1,4 +1,4 @@
-use Rattle.edges.proofs.Turns.{e_same, head_in, next_fits, next_same, place_in, place_scaled, scattered, spread_more, spreading, tail_in}
+use Rattle.edges.proofs.Turns.{head_in, next_fits, place_in, scattered, spread_more, spreading, tail_in}
 use Rattle.edges.proofs.fixed.scatter.Goals as goal
 
 pub loop-i-init : goal.loop-i-init
@@ -7,17 +7,11 @@ loop-i-init c = search spreading
 pub bounds-e-i : goal.bounds-e-i
 bounds-e-i c = search head_in
 
-pub offset_bounds-next-v : goal.offset_bounds-next-v
-offset_bounds-next-v c = search place_scaled
-
 pub bounds-next-v : goal.bounds-next-v
 bounds-next-v c = search place_in
 
 pub bounds-e-p : goal.bounds-e-p
 bounds-e-p c = search tail_in
-
-pub offset_bounds-next-v-in-loop-i : goal.offset_bounds-next-v-in-loop-i
-offset_bounds-next-v-in-loop-i c = search place_scaled
 
 pub bounds-next-v-in-loop-i : goal.bounds-next-v-in-loop-i
 bounds-next-v-in-loop-i c = search place_in
@@ -30,12 +24,6 @@ bounds-next-v-in-loop-i-2 c = search place_in
 
 pub loop-i-preserved : goal.loop-i-preserved
 loop-i-preserved c = search spread_more
-
-pub shape_of-e : goal.shape_of-e
-shape_of-e c = search e_same
-
-pub shape_of-next : goal.shape_of-next
-shape_of-next c = search next_same
 
 pub returns : goal.returns
 returns c = search scattered
