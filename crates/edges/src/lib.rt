@@ -13,7 +13,7 @@ ghost use Rattle.edges.specs.Raw.{Placed, ins_in, up_in, appear_in, out_in, down
 ghost use Rattle.edges.specs.Edges.{Counts, Adds, Removes};
 
 use rules::{Job, Plan, Senseless};
-use spans::ends;
+use spans::{PREDECESSORS, Rows, SUCCESSORS, ends};
 
 // How many edges there is room for.
 const ROOM: usize = 4096;
@@ -49,12 +49,13 @@ enum Place {
     Nowhere(usize),
 }
 
-// Looks x up in row i of the rows whose starts lie at o and whose elements lie at a.
-fn look(e: &[u16], o: usize, a: usize, i: usize, x: usize) -> Result<Place, Senseless>
-    requires { (o + starts_length ≤ length e.now) × (a + most_edges ≤ length e.now) × (i < most_jobs) × (x < most_jobs) }
-    ensures { Placed o a i x e.now result }
+// Looks x up in row i.
+fn look(e: &[u16], rows: Rows, i: usize, x: usize) -> Result<Place, Senseless>
+    requires { (rows.starts + starts_length ≤ length e.now) × (rows.elements + most_edges ≤ length e.now) × (i < most_jobs) × (x < most_jobs) }
+    ensures { Placed rows.starts rows.elements i x e.now result }
 {
-    let (f, t) = ends(e, o, i)?;
+    let (f, t) = ends(e, rows, i)?;
+    let a = rows.elements;
     match words::find(&e[a..a + ROOM], f, t, x as u16) {
         Some(p) => Ok(Place::At(p, t)),
         None => Ok(Place::Nowhere(t)),
@@ -82,7 +83,7 @@ pub fn count(e: &[u16], from: Job, to: Job) -> u16
     requires { (length e.now ≡ edges_length) × (from.0 < most_jobs) × (to.0 < most_jobs) }
     ensures { Counts e.now from.0 to.0 result }
 {
-    match look(e, 0, HEADS, from.0 as usize, to.0 as usize) {
+    match look(e, SUCCESSORS, from.0 as usize, to.0 as usize) {
         Ok(Place::At(p, _)) => times(e, p),
         Ok(Place::Nowhere(_)) => 0,
         Err(Senseless) => 0,
@@ -127,7 +128,7 @@ pub fn add(e: &mut [u16], from: Job, to: Job) -> Result<Added, Senseless>
 {
     let i = from.0 as usize;
     let j = to.0 as usize;
-    match look(&e[..], 0, HEADS, i, j)? {
+    match look(&e[..], SUCCESSORS, i, j)? {
         Place::At(p, _) => {
             let n = times(&e[..], p);
             if n == u16::MAX {
@@ -186,7 +187,7 @@ pub fn remove(e: &mut [u16], from: Job, to: Job) -> Result<Removed, Senseless>
 {
     let i = from.0 as usize;
     let j = to.0 as usize;
-    match look(&e[..], 0, HEADS, i, j)? {
+    match look(&e[..], SUCCESSORS, i, j)? {
         Place::Nowhere(_) => Ok(Removed::Absent),
         Place::At(p, t) => {
             let n = times(&e[..], p);
@@ -194,7 +195,7 @@ pub fn remove(e: &mut [u16], from: Job, to: Job) -> Result<Removed, Senseless>
                 retime(e, p, n - 1);
                 return Ok(Removed::Lessened);
             }
-            let Place::At(s, v) = look(&e[..], TAIL_STARTS, TAILS, j, i)? else {
+            let Place::At(s, v) = look(&e[..], PREDECESSORS, j, i)? else {
                 return Err(Senseless);
             };
             let w = usize::from(e[Plan::JOBS]);

@@ -4,19 +4,19 @@ ghost use Rattle.rules.specs.Sizes.{edges_length};
 ghost use Rattle.edges.specs.Layout.{most_edges, starts_length};
 ghost use Rattle.edges.specs.Lists.{Rowed, Successors, Predecessors};
 
-use crate::spans::ends;
-use crate::{HEADS, TAIL_STARTS, TAILS};
+use crate::spans::{PREDECESSORS, Rows, SUCCESSORS, ends};
 use rules::{Plan, Senseless};
 
-// Row i of the rows whose starts lie at o and whose elements lie at a.
-fn row(e: &[u16], o: usize, a: usize, i: usize) -> &[u16]
-    requires { (o + starts_length ≤ length e.now) × (a + most_edges ≤ length e.now) }
-    ensures { Rowed o a i e.now result.now }
+// Row i.
+fn row(e: &[u16], rows: Rows, i: usize) -> &[u16]
+    requires { (rows.starts + starts_length ≤ length e.now) × (rows.elements + most_edges ≤ length e.now) }
+    ensures { Rowed rows.starts rows.elements i e.now result.now }
 {
     if Plan::JOBS <= i {
         return &[];
     }
-    match ends(e, o, i) {
+    let a = rows.elements;
+    match ends(e, rows, i) {
         Ok((f, t)) => &e[a + f..a + t],
         Err(Senseless) => &[],
     }
@@ -27,7 +27,7 @@ pub fn successors(e: &[u16], u: usize) -> &[u16]
     requires { length e.now ≡ edges_length }
     ensures { Successors e.now u result.now }
 {
-    row(e, 0, HEADS, u)
+    row(e, SUCCESSORS, u)
 }
 
 // The jobs that have an edge to job v, in stored order.
@@ -35,5 +35,5 @@ pub fn predecessors(e: &[u16], v: usize) -> &[u16]
     requires { length e.now ≡ edges_length }
     ensures { Predecessors e.now v result.now }
 {
-    row(e, TAIL_STARTS, TAILS, v)
+    row(e, PREDECESSORS, v)
 }
