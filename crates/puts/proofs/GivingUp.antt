@@ -1,14 +1,13 @@
 -- The waiting owners are emptied one after the other, and then nobody waits. Assumes nothing.
-use Prim.Native.Nat.{ℕ, ◌+◌, ◌≤◌, ◌<◌}
-use native.Mathlib.Nat.{add-zero}
+use Prim.Native.Nat.{ℕ, ◌+◌, ◌-◌, ◌≤◌, ◌<◌}
 use native.Mathlib.Numerals.{add-one}
 use native.Mathlib.Omega.{arith}
 use mathlib.Core.Path.{◌≡◌, refl, sym, ap, subst, ◌∙◌}
 use mathlib.Core.Bool.{Bool, true, false, cond}
 use mathlib.Core.List.{List, [], ◌++◌, append-nil}
 use lib.Dec.{eqb}
-use lib.ListN.{length, get_or, take}
-use lib.Seq.{take-suc, take_all, take_at}
+use lib.ListN.{length, get_or, take, drop, length-take, length-append, length-drop}
+use lib.Seq.{take-suc, take_all, take_at, drop_at, take-add, take-append-le, length-take-le}
 use borrow.Author.Rules.{rules}
 use borrow.Author.Tests.{eq-eqb, ne_eqb}
 use Rattle.std.specs.Prelude.{Result, Ok, Err}
@@ -23,6 +22,7 @@ use Rattle.rules.specs.declared.Senseless.{Senseless}
 use Rattle.routes.specs.Handing.{Waiting}
 use Rattle.routes.specs.Desks.{edges_from, edges_of, Desked}
 use Rattle.routes.specs.Promises.{Gives, Queues, Cleared}
+use Rattle.edges.specs.Raw.{put}
 use Rattle.routes.proofs.Lists.{in_list}
 use Rattle.routes.proofs.Sweeping.{err_never, ok_same, never_ok}
 use Rattle.routes.proofs.Swapping.{done_both}
@@ -42,32 +42,32 @@ none_gives {p} {w} S h = record {
 }
 
 -- the owner of the put
-pub one_own : {r e : List ℕ} {w o : ℕ} {went : List ℕ} {at : ℕ} → w ≡ o → at ≤ length went → OneEmptied r e w o r e went went at (Ok at)
-one_own {w = w} {o} {went} {at} q f = let b : eqb w o ≡ true = eq-eqb w o q in record {
-  within = λ h z. omega (arith, ok_same z);
+pub one_own : {r e : List ℕ} {w o : ℕ} {went : List ℕ} → w ≡ o → OneEmptied r e w o r e went went (Ok 0)
+one_own {w = w} {o} {went} q = let b : eqb w o ≡ true = eq-eqb w o q in record {
+  within = λ h z. let k = ok_same z in omega arith;
   emptier = λ p D h u. record {
     gone = [];
-    answer = ap Ok (sym (add-zero at));
-    listed = rw add-zero (sym (append-nil (take at went)));
+    answer = refl;
+    listed = refl;
     desked = rw b D;
     queues = rw b queues_none;
     few = omega arith;
   };
 }
 
-module _ {r e : List ℕ} {w o : ℕ} {r' e' went went' : List ℕ} {at : ℕ} {came' : List ℕ} {a : Result (ℕ × ℕ) Senseless}
-    (T : RouteTurn r e w [] 0 0 r' e' went went' at came' a) (n : w ≡ o → ⊥) where
-  turned_one : (p : Plan) → Desked r e p → w < p.base.owners → at + length (route_of p w).stops ≤ length went
-      → Turned p w empty_route r' e' went went' at came' a
+module _ {r e : List ℕ} {w o : ℕ} {r' e' went went' came' : List ℕ} {a : Result (ℕ × ℕ) Senseless}
+    (T : RouteTurn r e w [] 0 0 r' e' went went' came' a) (n : w ≡ o → ⊥) where
+  turned_one : (p : Plan) → Desked r e p → w < p.base.owners → length (route_of p w).stops ≤ length went
+      → Turned p w empty_route r' e' went' came' a
   turned_one p D h u = T.turned p empty_route D (none_gives D.sound h) refl refl u
 
-  pub one_bad : {z : Senseless} (b : Result ℕ Senseless) → a ≡ Err z → IsErr b → OneEmptied r e w o r' e' went went' at b
+  pub one_bad : {z : Senseless} (b : Result ℕ Senseless) → a ≡ Err z → IsErr b → OneEmptied r e w o r' e' went went' b
   one_bad b q k = record {
     within = λ h y. err_never k y;
     emptier = λ p D h u. never_ok (sym q ∙ (turned_one p D h u).edges.answer);
   }
 
-  pub one_done : {g c : ℕ} → a ≡ Ok (g, c) → OneEmptied r e w o r' e' went went' at (Ok g)
+  pub one_done : {g c : ℕ} → a ≡ Ok (g, c) → OneEmptied r e w o r' e' went went' (Ok g)
   one_done {g} {c} q = let b : eqb w o ≡ false = ne_eqb w o n in record {
     within = λ h z. let (x, y) = T.short g c q in omega (arith, ok_same z);
     emptier = λ p D h u. let U = turned_one p D h u in record {
@@ -136,9 +136,20 @@ module _ {p : Plan} {o i : ℕ} {r e went : List ℕ} {at : ℕ} (S : Sound p) (
       (ap (λ (k : ℕ). take k p.desk.waiting) (add-one i) ∙ take-suc p.desk.waiting i 0 h)
       ∙ empty_more p.base o (take i p.desk.waiting) w (begun p)
 
-  module _ {r' e' went' : List ℕ} {a : Result ℕ Senseless} (E : OneEmptied r e w o r' e' went went' at a) where
-    emptier : Emptier q o w r' e' went went' at a
+  -- its heads are listed behind those of the owners before it
+  module _ {part r' e' behind : List ℕ} {a : Result ℕ Senseless} (E : OneEmptied r e w o r' e' part behind a) (inside : at ≤ length went)
+      (size : length part ≡ length went - at) where
+    emptier : Emptier q o w r' e' behind a
     emptier = E.emptier q F.desked owner (let a = F.few in let b = own_few in let c = S.room in omega arith)
+
+    joined : take (at + length emptier.gone) (put at (length went - at) went behind) ≡ take at went ++ emptier.gone
+    joined =
+        let x : length (take at went) ≡ at = length-take-le at went inside in
+        let rest : List ℕ = drop (length went - at) (drop at went) in
+        let n : ℕ = length emptier.gone in
+        let k : n ≤ length behind = omega (arith, ap length emptier.listed, length-take n behind) in
+        take-add at n (put at (length went - at) went behind)
+        ∙ rw (take_at (take at went) (behind ++ rest) at x, drop_at (take at went) (behind ++ rest) at x, take-append-le n behind rest k, emptier.listed)
 
     gone_few : length emptier.gone + in_force (upto p o (i + 1)).routes ≤ in_force (upto p o i).routes
     gone_few =
@@ -147,10 +158,10 @@ module _ {p : Plan} {o i : ℕ} {r e went : List ℕ} {at : ℕ} (S : Sound p) (
         let c = ap (λ (x : Emptied). in_force x.routes) more in
         omega arith
 
-    emptying_next : Emptying p o (i + 1) r' e' went' (at + length emptier.gone)
+    emptying_next : Emptying p o (i + 1) r' e' (put at (length went - at) went behind) (at + length emptier.gone)
     emptying_next = record {
       desked = rw (more, amid_more p w (upto p o i) (eqb w o)) emptier.desked;
-      queues = rw (more, went_more p w (upto p o i) (eqb w o), emptier.listed)
+      queues = rw (more, went_more p w (upto p o i) (eqb w o), joined)
           (queues_join (take at went) emptier.gone (upto p o i).went (cond (eqb w o) [] (staging q w empty_route).went) F.queues
           emptier.queues);
       few = let a = gone_few in let b = F.few in omega arith;
@@ -169,29 +180,38 @@ rounds_none r e row o went h =
     record { within = omega arith; kept = refl; long = h; emptying = λ p D q. emptying_start o went D }
 
 module _ {r₀ e₀ row : List ℕ} {o : ℕ} {went₀ r e went : List ℕ} {at i : ℕ} (I : Rounds r₀ e₀ row o went₀ r e went at i) where
-  module _ {r' e' went' : List ℕ} {a : Result ℕ Senseless} (E : OneEmptied r e (get_or row i 0) o r' e' went went' at a) (h : i < length row) where
+  module _ {part r' e' behind : List ℕ} {a : Result ℕ Senseless} (E : OneEmptied r e (get_or row i 0) o r' e' part behind a)
+      (size : length part ≡ length went - at) (h : i < length row) where
+    abbrev went' : List ℕ
+    went' = put at (length went - at) went behind
+
     next : (p : Plan) → Desked r₀ e₀ p → row ≡ p.desk.waiting
-        → ((z : Senseless) → a ≡ Err z → ⊥) × ((g : ℕ) → a ≡ Ok g → Emptying p o (i + 1) r' e' went' g)
+        → ((z : Senseless) → a ≡ Err z → ⊥) × ((g : ℕ) → a ≡ Ok g → Emptying p o (i + 1) r' e' went' (at + g))
     next p D q =
         let F = I.emptying p D q in
         let k : i < length p.desk.waiting = rw q at h in
         let long : most_entries ≤ length went = (let x = I.kept in let y = I.long in omega arith) in
-        let E' : OneEmptied r e (get_or p.desk.waiting i 0) o r' e' went went' at a = rw q at E in
-        let is = (emptier D.sound F k long E').answer in (
+        let E' : OneEmptied r e (get_or p.desk.waiting i 0) o r' e' part behind a = rw q at E in
+        let is = (emptier D.sound F k long E' I.within size).answer in (
           λ z y. never_ok (sym y ∙ is),
-          λ g z. subst (Emptying p o (i + 1) r' e' went') (sym (ok_same (sym z ∙ is))) (emptying_next D.sound F k long E'),
+          λ g z. subst (λ (n : ℕ). Emptying p o (i + 1) r' e' went' (at + n)) (sym (ok_same (sym z ∙ is)))
+              (emptying_next D.sound F k long E' I.within size),
         )
 
     pub rounds_bad : {z : Senseless} (b : Result ℕ Senseless) → a ≡ Err z → IsErr b → EachEmptied r₀ e₀ row o r' e' went₀ went' b
     rounds_bad {z} b q k = record { within = λ h y. err_never k y; freely = λ p D e. absurd ((next p D e).0 z q) }
 
-    pub rounds_on : {g : ℕ} → a ≡ Ok g → length went' ≡ length went → Rounds r₀ e₀ row o went₀ r' e' went' g (i + 1)
-    rounds_on {g} z l = record {
-      within = let k = E.within g z in omega arith;
-      kept = l ∙ I.kept;
-      long = I.long;
-      emptying = λ p D q. (next p D q).1 g z;
-    }
+    pub rounds_on : {g : ℕ} → a ≡ Ok g → length behind ≡ length part → Rounds r₀ e₀ row o went₀ r' e' went' (at + g) (i + 1)
+    rounds_on {g} z l =
+        let x = I.within in
+        let y = length-take-le at went x in
+        let k : length went' ≡ length went = simp (length-append, length-drop) (omega arith) in
+        record {
+          within = let f = E.within g z in omega arith;
+          kept = k ∙ I.kept;
+          long = I.long;
+          emptying = λ p D q. (next p D q).1 g z;
+        }
 
   pub rounds_done : length row ≤ i → EachEmptied r₀ e₀ row o r e went₀ went (Ok at)
   rounds_done h = record {

@@ -1,6 +1,5 @@
 -- A put: is there room, the waiting owners are emptied, then the owner's route becomes the new one. Assumes nothing.
 use Prim.Native.Nat.{ℕ, ◌+◌, ◌≤◌, ◌<◌}
-use native.Mathlib.Nat.{zero-add}
 use native.Mathlib.Omega.{arith}
 use mathlib.Core.Path.{◌≡◌, refl, sym, ap, ◌∙◌}
 use mathlib.Core.Bool.{Bool, true, false, cond}
@@ -91,13 +90,9 @@ module _ {p : Plan} {o : ℕ} {s : List ℕ} {i v : ℕ} {l : List ℕ} (N : Ent
   gives = record { owner = N.owner; reads = read_read p.base.jobs l N.entries; stops = N.stops; room = N.room }
 
   module _ {r₁ e₁ gone₁ : List ℕ} {b : Result ℕ Senseless} (F : Freely p o (ready p o) r₁ e₁ gone₁ b) {r₂ e₂ went went₂ came₂ : List ℕ} {a : Result (ℕ × ℕ) Senseless}
-      (T : RouteTurn r₁ e₁ o s i v r₂ e₂ went went₂ 0 came₂ a) (long : most_entries ≤ length went) where
-    turned : Turned (ready p o) o x r₂ e₂ went went₂ 0 came₂ a
+      (T : RouteTurn r₁ e₁ o s i v r₂ e₂ went went₂ came₂ a) (long : most_entries ≤ length went) where
+    turned : Turned (ready p o) o x r₂ e₂ went₂ came₂ a
     turned = T.turned (ready p o) x F.desked gives N.invalid N.violations (let z = (F.desked.sound.reads o).few in omega arith)
-
-    -- what vanished through the owner, as it is listed
-    went_read : take (length turned.edges.gone) went₂ ≡ turned.edges.gone
-    went_read = rw zero-add at turned.edges.went_listed
 
     own_came : Queues (take turned.edges.fresh came₂) (own_stage p o l).came
     own_came = rw (own_stage_lem p o l) at turned.edges.came_queues
@@ -119,9 +114,9 @@ module _ {p : Plan} {o : ℕ} {s : List ℕ} {i v : ℕ} {l : List ℕ} (N : Ent
         let hg : g ≡ F.count = ok_same (sym z ∙ F.answer) in
         record {
           heads = record { came = turned.edges.fresh; went = length turned.edges.gone; gone = F.count };
-          answer = rw (hc, hw, hg, zero-add);
+          answer = rw (hc, hw, hg);
           desked = rw (turned_put p o l) at turned.desked;
-          queued = rw went_read queued;
+          queued = rw turned.edges.went_listed queued;
           few_came = let (y, w) = T.short h c q in omega arith;
           few_went = let y = turned.few in let w = (F.desked.sound.reads o).few in omega arith;
           few_gone = F.few;
@@ -150,7 +145,7 @@ module _ {r e : List ℕ} {o : ℕ} {r₁ e₁ gone gone₁ : List ℕ} {b : Res
   stops_never a q k = record { within = within_err _ _ _ _ k; done = λ p l D N. never_ok (sym q ∙ (A.freely p D).answer) }
 
   module _ {s : List ℕ} {i v : ℕ} {r₂ e₂ went went₂ came came₂ : List ℕ} {a : Result (ℕ × ℕ) Senseless}
-      (T : RouteTurn r₁ e₁ o s i v r₂ e₂ went went₂ 0 came₂ a) (long : most_entries ≤ length went) where
+      (T : RouteTurn r₁ e₁ o s i v r₂ e₂ went went₂ came₂ a) (long : most_entries ≤ length went) where
     pub stops_bad : {z : Senseless} (x : Result Heads Senseless) → a ≡ Err z → IsErr x
         → StopsPut r e o s i v r₂ e₂ came came₂ went went₂ gone gone₁ x
     stops_bad x q k = record {

@@ -1,5 +1,5 @@
 -- `swap_route`: an owner's route becomes another, in the words of the routes and of the edges. Assumes nothing.
-use Prim.Native.Nat.{ℕ, ◌+◌, ◌≤◌}
+use Prim.Native.Nat.{ℕ, ◌≤◌}
 use native.Mathlib.Omega.{arith}
 use mathlib.Core.Path.{◌≡◌, refl, sym, ap, ◌∙◌}
 use mathlib.Core.Bool.{Bool, true, false, not}
@@ -22,8 +22,8 @@ use Rattle.routes.proofs.Wellformed.{route_at_lem}
 use Rattle.puts.specs.Puts.{RouteTurn}
 
 -- there is no room, so there is no such plan
-pub swap_unfit : (r : List ℕ) (o : ℕ) (s : List ℕ) {e : List ℕ} {i v : ℕ} {went : List ℕ} {at : ℕ} {came : List ℕ} {z : Senseless} (b : Bool) → not b ≡ true
-    → Fits r o (length s) b → RouteTurn r e o s i v r e went went at came (Err z)
+pub swap_unfit : (r : List ℕ) (o : ℕ) (s : List ℕ) {e : List ℕ} {i v : ℕ} {went came : List ℕ} {z : Senseless} (b : Bool) → not b ≡ true
+    → Fits r o (length s) b → RouteTurn r e o s i v r e went went came (Err z)
 swap_unfit r o s true q F = clash q refl
 swap_unfit r o s false q F = record {
   short = λ h c z. never_ok z;
@@ -41,21 +41,21 @@ stops_are {o = o} {p} T D = T.is (routes_of p) D.routes ∙ ap (λ (x : Route). 
 pub stops_long : {r e old : List ℕ} {o : ℕ} {p : Plan} → Stopped r o old → Desked r e p → length old ≡ length (route_of p o).stops
 stops_long {o = o} {p} T D = ap length (stops_are T D) ∙ length-map (route_of p o).stops word
 
-module _ {r e old : List ℕ} {o : ℕ} {s e' went went' : List ℕ} {at : ℕ} {came' : List ℕ} {a : Result (ℕ × ℕ) Senseless} (T : Stopped r o old)
-    (E : EdgesTurn old s e e' went went' at came' a) where
-  edges_turned : (p : Plan) (x : Route) → Desked r e p → Gives p o s x → at + length (route_of p o).stops ≤ length went
-      → EdgesTurned p o x e' went went' at came' a
+module _ {r e old : List ℕ} {o : ℕ} {s e' went went' came' : List ℕ} {a : Result (ℕ × ℕ) Senseless} (T : Stopped r o old)
+    (E : EdgesTurn old s e e' went went' came' a) where
+  edges_turned : (p : Plan) (x : Route) → Desked r e p → Gives p o s x → length (route_of p o).stops ≤ length went
+      → EdgesTurned p o x e' went' came' a
   edges_turned p x D G u =
       E.turned p o x D.sound D.edges (stops_are T D) G (let z = stops_long T D in omega arith)
 
   pub swap_bad : {i v : ℕ} {r' : List ℕ} {z : Senseless} (b : Result (ℕ × ℕ) Senseless) → a ≡ Err z → IsErr b
-      → RouteTurn r e o s i v r' e' went went' at came' b
+      → RouteTurn r e o s i v r' e' went went' came' b
   swap_bad b q k = record {
     short = λ h c y. err_never k y;
     turned = λ p x D G ei ev u. never_ok (sym q ∙ (edges_turned p x D G u).answer);
   }
 
-  pub swap_done : {i v : ℕ} {r' : List ℕ} {x : ℕ × ℕ} → a ≡ Ok x → RoutesTurn r o s i v r' → RouteTurn r e o s i v r' e' went went' at came' (Ok x)
+  pub swap_done : {i v : ℕ} {r' : List ℕ} {x : ℕ × ℕ} → a ≡ Ok x → RoutesTurn r o s i v r' → RouteTurn r e o s i v r' e' went went' came' (Ok x)
   swap_done q R = rw (sym q) (record {
     short = λ h c z. let (x, y, w) = E.short h c z in (y, w);
     turned = λ p x D G ei ev u. let T' = edges_turned p x D G u in record {

@@ -1,5 +1,5 @@
 -- What a put promises: of the words for any contents, and of the plan that they stand for. Assumes nothing.
-use Rattle.std.specs.Prelude.{ℕ, ◌+◌, ◌≤◌, ◌<◌, ◌≡◌, Bool, cond, List, [], ◌++◌, map, eqb, ltb, length, take, Result, Ok, Err, ◌⊎◌}
+use Rattle.std.specs.Prelude.{ℕ, ◌≤◌, ◌<◌, ◌≡◌, Bool, cond, List, [], ◌++◌, map, eqb, ltb, length, take, Result, Ok, Err, ◌⊎◌}
 use Rattle.rules.specs.Sizes.{most_entries}
 use Rattle.rules.specs.Routes.{Plan, Route, empty_route, route_of, violations_of, in_force, read, emptied, own_stage, put_plan}
 use Rattle.rules.specs.Reports.{push, head_of, seeds}
@@ -18,17 +18,17 @@ use Rattle.routes.specs.Promises.{Gives, Queues, EdgesTurned}
 -- ── an owner's route ──
 
 -- both slices stand for the plan with x as owner o's route; the heads of what vanished and appeared are listed
-pub record Turned (p : Plan) (o : ℕ) (x : Route) (r' e' went went' : List ℕ) (at : ℕ) (came' : List ℕ) (a : Result (ℕ × ℕ) Senseless) : Type 0 where
-  pub edges : EdgesTurned p o x e' went went' at came' a
+pub record Turned (p : Plan) (o : ℕ) (x : Route) (r' e' went' came' : List ℕ) (a : Result (ℕ × ℕ) Senseless) : Type 0 where
+  pub edges : EdgesTurned p o x e' went' came' a
   pub desked : Desked r' e' (turning p o x)
   pub few : length edges.gone ≤ length (route_of p o).stops
 
 -- s are the stops, with i invalid entries and v violations
-pub record RouteTurn (r e : List ℕ) (o : ℕ) (s : List ℕ) (i v : ℕ) (r' e' went went' : List ℕ) (at : ℕ) (came' : List ℕ) (a : Result (ℕ × ℕ) Senseless)
+pub record RouteTurn (r e : List ℕ) (o : ℕ) (s : List ℕ) (i v : ℕ) (r' e' went went' came' : List ℕ) (a : Result (ℕ × ℕ) Senseless)
     : Type 0 where
   pub short : (h c : ℕ) → a ≡ Ok (h, c) → (h ≤ length went) × (c ≤ length s)
   pub turned : (p : Plan) (x : Route) → Desked r e p → Gives p o s x → i ≡ x.invalid → v ≡ violations_of p.base o x
-      → at + length (route_of p o).stops ≤ length went → Turned p o x r' e' went went' at came' a
+      → length (route_of p o).stops ≤ length went → Turned p o x r' e' went' came' a
 
 -- ── the waiting owners ──
 
@@ -37,18 +37,17 @@ abbrev pub Within : Result ℕ Senseless → List ℕ → Type 0
 Within a went = (h : ℕ) → a ≡ Ok h → h ≤ length went
 
 -- the waiting owner w was emptied, unless it is o
-pub record Emptier (p : Plan) (o w : ℕ) (r' e' went went' : List ℕ) (at : ℕ) (a : Result ℕ Senseless) : Type 0 where
+pub record Emptier (p : Plan) (o w : ℕ) (r' e' went' : List ℕ) (a : Result ℕ Senseless) : Type 0 where
   pub gone : List ℕ
-  pub answer : a ≡ Ok (at + length gone)
-  pub listed : take (at + length gone) went' ≡ take at went ++ gone
+  pub answer : a ≡ Ok (length gone)
+  pub listed : take (length gone) went' ≡ gone
   pub desked : Desked r' e' (cond (eqb w o) p (turning p w empty_route))
   pub queues : Queues gone (cond (eqb w o) [] (staging p w empty_route).went)
   pub few : length gone ≤ cond (eqb w o) 0 (length (route_of p w).stops)
 
-pub record OneEmptied (r e : List ℕ) (w o : ℕ) (r' e' went went' : List ℕ) (at : ℕ) (a : Result ℕ Senseless) : Type 0 where
+pub record OneEmptied (r e : List ℕ) (w o : ℕ) (r' e' went went' : List ℕ) (a : Result ℕ Senseless) : Type 0 where
   pub within : Within a went
-  pub emptier : (p : Plan) → Desked r e p → w < p.base.owners → at + length (route_of p w).stops ≤ length went
-      → Emptier p o w r' e' went went' at a
+  pub emptier : (p : Plan) → Desked r e p → w < p.base.owners → length (route_of p w).stops ≤ length went → Emptier p o w r' e' went' a
 
 -- all were emptied, which leaves the plan q
 pub record Freely (p : Plan) (o : ℕ) (q : Plan) (r' e' went' : List ℕ) (a : Result ℕ Senseless) : Type 0 where

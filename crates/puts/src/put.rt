@@ -10,57 +10,56 @@ use routes::snap::snapshot;
 use routes::wait::{clear, freed, waiting};
 use rules::{Owner, Plan, Refusal, Senseless};
 
-// The owner gets the route, and the edges follow: the heads of those that vanished are listed in `went` from `at` on, of those
-// that appeared in `came`. The answer is how far both reach.
+// The owner gets the route, and the edges follow: the heads of those that vanished are listed in `went`, of those that
+// appeared in `came`. The answer is how many of both.
 fn swap_route(
     r: &mut [u16],
     e: &mut [u16],
     owner: Owner,
     route: Route,
     went: &mut [u16],
-    at: usize,
     came: &mut [u16],
 ) -> Result<(usize, usize), Senseless>
     requires sizes { (length r.old ≡ routes_length) × (length e.old ≡ edges_length) × (length route.stops.now ≤ most_entries) }
-    requires room { (at ≤ length went.old) × (length route.stops.now ≤ length came.old) }
+    requires room { length route.stops.now ≤ length came.old }
     ensures { RouteTurn r.old e.old owner.0 route.entry.stops.now route.entry.invalid route.entry.violated r.new e.new
-        went.old went.new at came.new result }
+        went.old went.new came.new result }
 {
     if !fits(&r[..], owner, route.stops.len()) {
         return Err(Senseless);
     }
-    let reach = exchange(e, stops(&r[..], owner), route.stops, went, at, came)?;
+    let heads = exchange(e, stops(&r[..], owner), route.stops, went, came)?;
     put_route(r, owner, route);
-    Ok(reach)
+    Ok(heads)
 }
 
-// The waiting owner w, unless it is `owner`, gets an empty route. The answer is how far the heads of edges that vanished reach then.
+// The waiting owner w, unless it is `owner`, gets an empty route. The answer is how many heads of edges that vanished are
+// listed.
 fn empty_one(
     r: &mut [u16],
     e: &mut [u16],
     w: u16,
     owner: Owner,
     went: &mut [u16],
-    at: usize,
 ) -> Result<usize, Senseless>
-    requires { (length r.old ≡ routes_length) × (length e.old ≡ edges_length) × (at ≤ length went.old) }
+    requires { (length r.old ≡ routes_length) × (length e.old ≡ edges_length) }
     ensures { OneEmptied r.old e.old w owner.0 r.new e.new
-        went.old went.new at result }
+        went.old went.new result }
 {
     let waiter = u32::from(w);
     if waiter == owner.0 {
-        return Ok(at);
+        return Ok(0);
     }
     let none = Route {
         stops: &[],
         invalid: 0,
         violated: 0,
     };
-    let (h, _) = swap_route(r, e, Owner(waiter), none, went, at, &mut [])?;
+    let (h, _) = swap_route(r, e, Owner(waiter), none, went, &mut [])?;
     Ok(h)
 }
 
-// The owners of a row in turn.
+// The owners of a row in turn, and how many heads are listed.
 fn empty_each(
     r: &mut [u16],
     e: &mut [u16],
@@ -72,11 +71,11 @@ fn empty_each(
     ensures { EachEmptied r.old e.old row.now owner.0 r.new e.new
         went.old went.new result }
 {
-    let mut at = 0;
+    let mut h = 0;
     for &w in row {
-        at = empty_one(r, e, w, owner, went, at)?;
+        h += empty_one(r, e, w, owner, &mut went[h..])?;
     }
-    Ok(at)
+    Ok(h)
 }
 
 // All that wait, and nobody waits any more. Who waits is copied, since the routes change on the way.
@@ -133,7 +132,7 @@ fn put_stops(
         came.old came.new went.old went.new gone.old gone.new result }
 {
     let g = empty_all(r, e, owner, gone)?;
-    let (h, c) = swap_route(r, e, owner, route, went, 0, came)?;
+    let (h, c) = swap_route(r, e, owner, route, went, came)?;
     Ok(Heads {
         came: c,
         went: h,

@@ -20,17 +20,16 @@ pub gives_sound : {p : Plan} {o : ℕ} {s : List ℕ} {x : Route} → Sound p �
 gives_sound {p} {o} {x = x} S G = turning_sound p o x S G.owner G.reads G.room
 
 -- the list of heads is too short
-pub exchange_short : (old new e went : List ℕ) (at : ℕ) (came : List ℕ) {z : Senseless} → length went - at < length old
-    → EdgesTurn old new e e went went at came (Err z)
-exchange_short old new e went at came h = record {
+pub exchange_short : (old new e went came : List ℕ) {z : Senseless} → length went < length old → EdgesTurn old new e e went went came (Err z)
+exchange_short old new e went came h = record {
   short = λ h c q. never_ok q;
   turned = λ p o x S H q G u. absurd (omega arith);
 }
 
-module _ {old new e e' went went' : List ℕ} {at : ℕ} {came' : List ℕ} {r : Result (ℕ × ℕ) Senseless}
-    (P : Parts (codes 0 old) (codes 0 new) e e' went went' at came' r) where
+module _ {old new e e' went' came' : List ℕ} {r : Result (ℕ × ℕ) Senseless}
+    (P : Parts (codes 0 old) (codes 0 new) e e' went' came' r) where
   done_here : (p : Plan) (o : ℕ) (x : Route) → Sound p → EdgesHold e (edges_of p) → old ≡ words (route_of p o).stops → Gives p o new x
-      → EdgesTurned p o x e' went went' at came' r
+      → EdgesTurned p o x e' went' came' r
   done_here p o x S H q G =
       let S' = gives_sound S G in
       let D = (rw (q, G.stops) at P).is (edges_of p) H (λ gone left d f. ready S G.owner G.reads S' d f) in
@@ -44,10 +43,10 @@ module _ {old new e e' went went' : List ℕ} {at : ℕ} {came' : List ℕ} {r :
         came_queues = rw D.came_listed (came_queues S G.owner G.reads S' D.differs D.from);
       }
 
-pub exchange_done : {old new e e' went went' : List ℕ} {at : ℕ} {came' : List ℕ} {r : Result (ℕ × ℕ) Senseless} {a b : List ℕ} {n k : ℕ}
-    → Parts (take n a) (take k b) e e' went went' at came' r → Linked old a n → Linked new b k
-    → length old ≤ length went - at → at ≤ length went → EdgesTurn old new e e' went went' at came' r
-exchange_done {old} {new} {n = n} {k} P L M h i =
+pub exchange_done : {old new e e' went went' came' : List ℕ} {r : Result (ℕ × ℕ) Senseless} {a b : List ℕ} {n k : ℕ}
+    → Parts (take n a) (take k b) e e' went' came' r → Linked old a n → Linked new b k → length old ≤ length went
+    → EdgesTurn old new e e' went went' came' r
+exchange_done {old} {new} {n = n} {k} P L M h =
     let Q = rw (L.written, M.written) at P in
     record {
       short = λ j c q. let (x, y) = Q.short j c q in let a = codes_few 0 old in let b = codes_few 0 new in (omega arith, omega arith, omega arith);
@@ -55,10 +54,7 @@ exchange_done {old} {new} {n = n} {k} P L M h i =
     }
 
 -- there is room for the heads
-pub went_room : {old a : List ℕ} {n : ℕ} → Linked old a n → (at k : ℕ) → length old ≤ k - at → at ≤ k → at + length (take n a) ≤ k
-went_room {a = a} {n} L at k h i = let f = L.few in omega (arith, length-take n a)
+pub heads_room : {old a : List ℕ} {n : ℕ} → Linked old a n → (k : ℕ) → length old ≤ k → length (take n a) ≤ k
+heads_room {a = a} {n} L k h = let f = L.few in omega (arith, length-take n a)
 
-pub came_room : {new b : List ℕ} {n : ℕ} → Linked new b n → (k : ℕ) → length new ≤ k → length (take n b) ≤ k
-came_room {b = b} {n} L k h = let f = L.few in omega (arith, length-take n b)
-
-pub ruleset exchanging = (rules, went_room, came_room, exchange_short, exchange_done)
+pub ruleset exchanging = (rules, heads_room, exchange_short, exchange_done)

@@ -44,10 +44,10 @@ done_both q = (ap (λ (x : ℕ × ℕ). x.0) (ok_same q), ap (λ (x : ℕ × ℕ
 
 -- ── the difference that was found ──
 
-module _ {old new old' new' : List ℕ} {g : ℕ} (d : Differed old new old' new' g) {e e₁ went went₁ : List ℕ} {at : ℕ} {r₁ : Result ℕ Senseless}
-    (T : Turns false (take g old') e e₁ went went₁ at r₁) where
+module _ {old new old' new' : List ℕ} {g : ℕ} (d : Differed old new old' new' g) {e e₁ went₁ : List ℕ} {r₁ : Result ℕ Senseless}
+    (T : Turns false (take g old') e e₁ went₁ r₁) where
   pub part_unswept : {came : List ℕ} {z : Senseless} (r : Result (ℕ × ℕ) Senseless) → r₁ ≡ Err z → IsErr r
-      → Parts old new e e₁ went went₁ at came r
+      → Parts old new e e₁ went₁ came r
   part_unswept r q k = record {
     short = λ h c z. err_never k z;
     is = λ m H R. never_ok (sym q ∙ (T.is m H (ready_out _ m)).upto);
@@ -59,15 +59,15 @@ module _ {old new old' new' : List ℕ} {g : ℕ} (d : Differed old new old' new
   from_old : From (take g old') old
   from_old x k = ⊎_elim (λ z. z) (λ z. clash z refl) (gone_from x old new [] (rw d.gone at k))
 
-  module _ {e₂ came came₁ : List ℕ} {r₂ : Result ℕ Senseless} (U : Turns true new' e₁ e₂ came came₁ 0 r₂) where
+  module _ {e₂ came₁ : List ℕ} {r₂ : Result ℕ Senseless} (U : Turns true new' e₁ e₂ came₁ r₂) where
     pub part_unput : {z : Senseless} (r : Result (ℕ × ℕ) Senseless) → r₂ ≡ Err z → IsErr r
-        → Parts old new e e₂ went went₁ at came₁ r
+        → Parts old new e e₂ went₁ came₁ r
     part_unput r q k = record {
       short = λ h c z. err_never k z;
       is = λ m H R. never_ok (sym q ∙ (U.is _ (T.is m H (ready_out _ m)).holds (R (take g old') new' differs_here from_old)).upto);
     }
 
-    pub part_done : {h c : ℕ} → r₁ ≡ Ok h → r₂ ≡ Ok c → Parts old new e e₂ went went₁ at came₁ (Ok (h, c))
+    pub part_done : {h c : ℕ} → r₁ ≡ Ok h → r₂ ≡ Ok c → Parts old new e e₂ went₁ came₁ (Ok (h, c))
     part_done {h} {c} q₁ q₂ = record {
       short = λ i j z.
           let (a, b) = done_both z in
@@ -80,7 +80,7 @@ module _ {old new old' new' : List ℕ} {g : ℕ} (d : Differed old new old' new
           let t = T.is m H (ready_out _ m) in
           let u = U.is _ t.holds (R (take g old') new' differs_here from_old) in
           let a = ok_same (sym q₁ ∙ t.upto) in
-          let b = ok_same (sym q₂ ∙ u.upto) ∙ zero-add _ in
+          let b = ok_same (sym q₂ ∙ u.upto) in
           record {
             gone = take g old';
             left = new';
@@ -89,13 +89,12 @@ module _ {old new old' new' : List ℕ} {g : ℕ} (d : Differed old new old' new
             holds = u.holds;
             answer = rw (a, b);
             went_listed = t.listed;
-            came_listed = rw zero-add at u.listed;
+            came_listed = u.listed;
           };
     }
 
-pub part_room : {old new old' new' : List ℕ} {g : ℕ} → Differed old new old' new' g → (at n : ℕ) → at + length old ≤ n
-    → at + length (take g old') ≤ n
-part_room {old' = old'} {g = g} d at n h = let f = d.few in omega (arith, length-take g old')
+pub part_room : {old new old' new' : List ℕ} {g : ℕ} → Differed old new old' new' g → (n : ℕ) → length old ≤ n → length (take g old') ≤ n
+part_room {old' = old'} {g = g} d n h = let f = d.few in omega (arith, length-take g old')
 
 pub ruleset swapping = (rules, part_room, part_unswept, part_unput, part_done)
 
@@ -111,8 +110,8 @@ module _ {old new : List ℕ} {f b : ℕ} (front : SameFront old new f) (back : 
       or_last true = refl
       or_last false = refl
 
-  pub links_done : {e e₂ went went₁ : List ℕ} {at : ℕ} {came₁ : List ℕ} {r : Result (ℕ × ℕ) Senseless}
-      → Parts (between f b old) (between f b new) e e₂ went went₁ at came₁ r → Parts old new e e₂ went went₁ at came₁ r
+  pub links_done : {e e₂ went₁ came₁ : List ℕ} {r : Result (ℕ × ℕ) Senseless}
+      → Parts (between f b old) (between f b new) e e₂ went₁ came₁ r → Parts old new e e₂ went₁ came₁ r
   links_done P = record {
     short = λ h c q.
         let (x, y) = P.short h c q in

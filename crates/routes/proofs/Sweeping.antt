@@ -1,9 +1,9 @@
 -- One edge more or less, and all of a list: `turn` and `turn_all`, from what the edges answer. Assumes nothing.
-use Rattle.std.proofs.Common.{◌≡◌, ℕ, ◌+◌, ◌/◌, ◌%◌, ◌<◌, ◌≤◌, Bool, true, false, cond, not, ◌&&◌, ltb, List, [], ◌∷◌, ◌++◌, length, get_or, take, drop, set, sym, refl, ap, ◌∙◌, append_assoc, append-nil, add-zero, add-one, arith, length-append, take-suc-set, rules, le-ltb, lt-ltb, Result, Ok, Err}
+use Rattle.std.proofs.Common.{◌≡◌, ℕ, ◌+◌, ◌/◌, ◌%◌, ◌<◌, ◌≤◌, Bool, true, false, cond, not, ◌&&◌, ltb, List, [], ◌∷◌, ◌++◌, length, get_or, take, drop, set, sym, refl, ap, ◌∙◌, append_assoc, append-nil, add-zero, zero-add, add-one, arith, length-append, take-suc-set, rules, le-ltb, lt-ltb, Result, Ok, Err}
 use Rattle.rules.specs.Sizes.{most_jobs}
 use Rattle.rules.proofs.Ranges.{clash}
 use Rattle.rules.specs.declared.Senseless.{Senseless}
-use Rattle.edges.specs.Edges.{Model, has_edge, count_of, add_answer, remove_answer, Adds, Removes}
+use Rattle.edges.specs.Edges.{Model, Holds, has_edge, count_of, add_answer, remove_answer, Adds, Removes}
 use Rattle.edges.specs.declared.Added.{Added}
 use Rattle.edges.specs.declared.Added.TheVariants as added
 use Rattle.edges.specs.declared.Removed.{Removed}
@@ -22,10 +22,28 @@ err_never h q = clash h (ap is_err q)
 pub never_ok : {A T : Type 0} {z : Senseless} {x : T} → ◌≡◌ {A = Result T Senseless} (Err z) (Ok x) → A
 never_ok q = err_never refl q
 
+-- ── behind what is listed ──
+
+-- the heads are listed from `at` on
+record Listed (b : Bool) (m : Model) (l e' heads heads' : List ℕ) (at : ℕ) (r : Result ℕ Senseless) : Type 0 where
+  upto : r ≡ Ok (at + length (heads_all b m l))
+  holds : Holds e' (turn_all b m l)
+  listed : take (at + length (heads_all b m l)) heads' ≡ take at heads ++ heads_all b m l
+
+record Listing (b : Bool) (l e e' heads heads' : List ℕ) (at : ℕ) (r : Result ℕ Senseless) : Type 0 where
+  short : (h : ℕ) → r ≡ Ok h → h ≤ at + length l
+  is : (m : Model) → Holds e m → ReadyAll b m l → Listed b m l e' heads heads' at r
+
+from_start : {b : Bool} {l e e' heads heads' : List ℕ} {r : Result ℕ Senseless} → Listing b l e e' heads heads' 0 r → Turns b l e e' heads' r
+from_start T = record {
+  short = λ h q. let k = T.short h q in omega arith;
+  is = λ m H R. let t = T.is m H R in record { upto = rw zero-add at t.upto; holds = t.holds; listed = rw zero-add at t.listed };
+}
+
 -- ── one ──
 
 module _ {b : Bool} {x : ℕ} {e e' : List ℕ} {r : Result Bool Senseless} (T : Turned b x e e' r) {heads : List ℕ} {h : ℕ} where
-  one_still : r ≡ Ok false → Turns b (x ∷ []) e e' heads heads h (Ok h)
+  one_still : r ≡ Ok false → Listing b (x ∷ []) e e' heads heads h (Ok h)
   unfolding turn_all heads_all ReadyAll
   one_still z = record {
     short = λ i q. omega (arith, ok_same q);
@@ -36,7 +54,7 @@ module _ {b : Bool} {x : ℕ} {e e' : List ℕ} {r : Result Bool Senseless} (T :
     };
   }
 
-  one_turned : r ≡ Ok true → h < length heads → Turns b (x ∷ []) e e' heads (set heads h (head x)) h (Ok (h + 1))
+  one_turned : r ≡ Ok true → h < length heads → Listing b (x ∷ []) e e' heads (set heads h (head x)) h (Ok (h + 1))
   unfolding turn_all heads_all ReadyAll
   one_turned z l = record {
     short = λ i q. omega (arith, ok_same q);
@@ -44,7 +62,7 @@ module _ {b : Bool} {x : ℕ} {e e' : List ℕ} {r : Result Bool Senseless} (T :
         record { upto = rw t; holds = J; listed = rw (t, add-one) (take-suc-set heads h (head x) l) };
   }
 
-  one_never : {z : Senseless} {r' : Result ℕ Senseless} → r ≡ Err z → IsErr r' → Turns b (x ∷ []) e e' heads heads h r'
+  one_never : {z : Senseless} {r' : Result ℕ Senseless} → r ≡ Err z → IsErr r' → Listing b (x ∷ []) e e' heads heads h r'
   unfolding ReadyAll
   one_never z k = record { short = λ i q. err_never k q; is = λ m H R. never_ok (sym z ∙ (T m H R.0).0) }
 
@@ -104,7 +122,7 @@ module _ (x : ℕ) {e e' : List ℕ} (near : x / most_jobs < most_jobs) where
 
 -- ── all of a list ──
 
-turns_none : (b : Bool) (e heads : List ℕ) (h : ℕ) → Turns b [] e e heads heads h (Ok h)
+turns_none : (b : Bool) (e heads : List ℕ) (h : ℕ) → Listing b [] e e heads heads h (Ok h)
 unfolding turn_all heads_all
 turns_none b e heads h = record {
   short = λ i q. omega (arith, ok_same q);
@@ -125,8 +143,8 @@ heads_first b m x l = go (turns b m x)
     go false = refl
 
 module _ {b : Bool} {x : ℕ} {l e e₁ heads heads₁ : List ℕ} {h : ℕ} where
-  turns_then : {k : ℕ} {e₂ heads₂ : List ℕ} {r : Result ℕ Senseless} → Turns b (x ∷ []) e e₁ heads heads₁ h (Ok k) → Turns b l e₁ e₂ heads₁ heads₂ k r
-      → Turns b (x ∷ l) e e₂ heads heads₂ h r
+  turns_then : {k : ℕ} {e₂ heads₂ : List ℕ} {r : Result ℕ Senseless} → Listing b (x ∷ []) e e₁ heads heads₁ h (Ok k) → Listing b l e₁ e₂ heads₁ heads₂ k r
+      → Listing b (x ∷ l) e e₂ heads heads₂ h r
   unfolding turn_all ReadyAll
   turns_then {k} {heads₂ = heads₂} T U = record {
     short = λ i q. let a = T.short k refl in let c = U.short i q in omega arith;
@@ -143,36 +161,36 @@ module _ {b : Bool} {x : ℕ} {l e e₁ heads heads₁ : List ℕ} {h : ℕ} whe
         };
   }
 
-  turns_bad : {r : Result ℕ Senseless} → Turns b (x ∷ []) e e₁ heads heads₁ h r → IsErr r → Turns b (x ∷ l) e e₁ heads heads₁ h r
+  turns_bad : {r : Result ℕ Senseless} → Listing b (x ∷ []) e e₁ heads heads₁ h r → IsErr r → Listing b (x ∷ l) e e₁ heads heads₁ h r
   unfolding ReadyAll
   turns_bad T k = record { short = λ i q. err_never k q; is = λ m H R. err_never k (T.is m H (R.0, tt)).upto }
 
 -- once the rest of the list is turned, all of it is
-pub record Sweeping (b : Bool) (s e₀ heads₀ : List ℕ) (at : ℕ) (e heads : List ℕ) (h i : ℕ) : Type 0 where
-  pub few : h ≤ at + i
-  pub rest : (e' heads' : List ℕ) (r : Result ℕ Senseless) → Turns b (drop i s) e e' heads heads' h r → Turns b s e₀ e' heads₀ heads' at r
+pub record Sweeping (b : Bool) (s e₀ heads₀ e heads : List ℕ) (h i : ℕ) : Type 0 where
+  pub few : h ≤ i
+  rest : (e' heads' : List ℕ) (r : Result ℕ Senseless) → Listing b (drop i s) e e' heads heads' h r → Listing b s e₀ e' heads₀ heads' 0 r
 
-pub sweep_none : (b : Bool) (s e heads : List ℕ) (at : ℕ) → Sweeping b s e heads at e heads at 0
-sweep_none b s e heads at = record { few = omega arith; rest = λ e' heads' r T. T }
+pub sweep_none : (b : Bool) (s e heads : List ℕ) → Sweeping b s e heads e heads 0 0
+sweep_none b s e heads = record { few = omega arith; rest = λ e' heads' r T. T }
 
-module _ {b : Bool} {s e₀ heads₀ : List ℕ} {at : ℕ} {e heads : List ℕ} {h i : ℕ} (W : Sweeping b s e₀ heads₀ at e heads h i) where
+module _ {b : Bool} {s e₀ heads₀ e heads : List ℕ} {h i : ℕ} (W : Sweeping b s e₀ heads₀ e heads h i) where
   module _ {e₁ : List ℕ} {r : Result Bool Senseless} (T : Turned b (get_or s i 0) e e₁ r) (l : i < length s) where
-    sweep_on : {heads₁ : List ℕ} {k : ℕ} → Turns b (get_or s i 0 ∷ []) e e₁ heads heads₁ h (Ok k) → Sweeping b s e₀ heads₀ at e₁ heads₁ k (i + 1)
+    sweep_on : {heads₁ : List ℕ} {k : ℕ} → Listing b (get_or s i 0 ∷ []) e e₁ heads heads₁ h (Ok k) → Sweeping b s e₀ heads₀ e₁ heads₁ k (i + 1)
     sweep_on {k = k} U = record {
       few = let a = U.short k refl in let c = W.few in omega arith;
       rest = λ e' heads' r V. W.rest e' heads' r (rw (row_cons s i l) (turns_then U V));
     }
 
-    pub sweep_same : r ≡ Ok false → Sweeping b s e₀ heads₀ at e₁ heads h (i + 1)
+    pub sweep_same : r ≡ Ok false → Sweeping b s e₀ heads₀ e₁ heads h (i + 1)
     sweep_same q = sweep_on (one_still T q)
 
-    pub sweep_turned : r ≡ Ok true → h < length heads → Sweeping b s e₀ heads₀ at e₁ (set heads h (head (get_or s i 0))) (h + 1) (i + 1)
+    pub sweep_turned : r ≡ Ok true → h < length heads → Sweeping b s e₀ heads₀ e₁ (set heads h (head (get_or s i 0))) (h + 1) (i + 1)
     sweep_turned q k = sweep_on (one_turned T q k)
 
-    pub sweep_bad : {z : Senseless} (r' : Result ℕ Senseless) → r ≡ Err z → IsErr r' → Turns b s e₀ e₁ heads₀ heads at r'
-    sweep_bad r' q k = W.rest e₁ heads r' (rw (row_cons s i l) (turns_bad (one_never T q k) k))
+    pub sweep_bad : {z : Senseless} (r' : Result ℕ Senseless) → r ≡ Err z → IsErr r' → Turns b s e₀ e₁ heads r'
+    sweep_bad r' q k = from_start (W.rest e₁ heads r' (rw (row_cons s i l) (turns_bad (one_never T q k) k)))
 
-  pub sweep_done : length s ≤ i → Turns b s e₀ e heads₀ heads at (Ok h)
-  sweep_done l = W.rest e heads (Ok h) (rw (row_none s i l) (turns_none b e heads h))
+  pub sweep_done : length s ≤ i → Turns b s e₀ e heads (Ok h)
+  sweep_done l = from_start (W.rest e heads (Ok h) (rw (row_none s i l) (turns_none b e heads h)))
 
 pub ruleset sweeping = (rules, sweep_none, sweep_done)

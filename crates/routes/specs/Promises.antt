@@ -1,5 +1,5 @@
 -- What the writers promise of the plan that the words stand for. Assumes nothing.
-use Rattle.std.specs.Prelude.{◌≡◌, ℕ, ◌+◌, ◌<◌, ◌≤◌, Bool, true, false, List, ◌++◌, map, length, take, ◌≢◌, slice_set, Result, Ok}
+use Rattle.std.specs.Prelude.{◌≡◌, ℕ, ◌<◌, ◌≤◌, Bool, true, false, List, map, length, take, ◌≢◌, slice_set, Result, Ok}
 use Rattle.rules.specs.Lists.{Pair}
 use Rattle.rules.specs.Sizes.{most_entries}
 use Rattle.rules.specs.Routes.{Plan, Route, route_of, violations_of, in_force, wait}
@@ -46,17 +46,17 @@ abbrev pub Queues : List ℕ → List Pair → Type 0
 Queues h l = (q : List ℕ) → push q h ≡ push q (map head_of l)
 
 -- the edges' words follow; heads of what vanished and appeared are listed
-pub record EdgesTurned (p : Plan) (o : ℕ) (x : Route) (e' went went' : List ℕ) (at : ℕ) (came' : List ℕ) (a : Result (ℕ × ℕ) Senseless) : Type 0 where
+pub record EdgesTurned (p : Plan) (o : ℕ) (x : Route) (e' went' came' : List ℕ) (a : Result (ℕ × ℕ) Senseless) : Type 0 where
   pub gone : List ℕ
   pub fresh : ℕ
-  pub answer : a ≡ Ok (at + length gone, fresh)
+  pub answer : a ≡ Ok (length gone, fresh)
   pub holds : EdgesHold e' (edges_of (turning p o x))
-  pub went_listed : take (at + length gone) went' ≡ take at went ++ gone
+  pub went_listed : take (length gone) went' ≡ gone
   pub went_queues : Queues gone (staging p o x).went
   pub came_queues : Queues (take fresh came') (staging p o x).came
 
 -- old and new are the words of the stops
-pub record EdgesTurn (old new e e' went went' : List ℕ) (at : ℕ) (came' : List ℕ) (a : Result (ℕ × ℕ) Senseless) : Type 0 where
-  pub short : (h c : ℕ) → a ≡ Ok (h, c) → (h ≤ at + length old) × (h ≤ length went) × (c ≤ length new)
+pub record EdgesTurn (old new e e' went went' came' : List ℕ) (a : Result (ℕ × ℕ) Senseless) : Type 0 where
+  pub short : (h c : ℕ) → a ≡ Ok (h, c) → (h ≤ length old) × (h ≤ length went) × (c ≤ length new)
   pub turned : (p : Plan) (o : ℕ) (x : Route) → Sound p → EdgesHold e (edges_of p) → old ≡ words (route_of p o).stops → Gives p o new x
-      → at + length old ≤ length went → EdgesTurned p o x e' went went' at came' a
+      → length old ≤ length went → EdgesTurned p o x e' went' came' a

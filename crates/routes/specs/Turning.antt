@@ -1,6 +1,6 @@
 -- Edges taken out or put in, one after the other, and which of them vanish or appear. An edge is from * most_jobs + to; other numbers are
 -- passed over. Assumes nothing.
-use Rattle.std.specs.Prelude.{◌≡◌, ℕ, ◌+◌, ◌/◌, ◌%◌, ◌≤◌, Bool, true, false, cond, not, ◌&&◌, List, [], ◌∷◌, ◌++◌, length, take, nat_lt, Result, Ok}
+use Rattle.std.specs.Prelude.{◌≡◌, ℕ, ◌/◌, ◌%◌, ◌≤◌, Bool, true, false, cond, not, ◌&&◌, List, [], ◌∷◌, length, take, nat_lt, Result, Ok}
 use Rattle.rules.specs.Lists.{memb}
 use Rattle.rules.specs.Sizes.{most_jobs}
 use Rattle.edges.specs.Edges.{Model, Holds, Room, has_edge, count_of, add_edge, remove_edge}
@@ -47,15 +47,15 @@ unfoldable pub ReadyAll : Bool → Model → List ℕ → Type 0
 ReadyAll b m [] = Unit
 ReadyAll b m (x ∷ l) = Ready b m x × ReadyAll b (turn_one b m x) l
 
--- the edges l of m were turned, and the heads of those that appeared or vanished are listed from `at` on
-pub record Turnt (b : Bool) (m : Model) (l e' heads heads' : List ℕ) (at : ℕ) (r : Result ℕ Senseless) : Type 0 where
-  pub upto : r ≡ Ok (at + length (heads_all b m l))
+-- the edges l of m were turned, and the heads of those that appeared or vanished are listed
+pub record Turnt (b : Bool) (m : Model) (l e' heads' : List ℕ) (r : Result ℕ Senseless) : Type 0 where
+  pub upto : r ≡ Ok (length (heads_all b m l))
   pub holds : Holds e' (turn_all b m l)
-  pub listed : take (at + length (heads_all b m l)) heads' ≡ take at heads ++ heads_all b m l
+  pub listed : take (length (heads_all b m l)) heads' ≡ heads_all b m l
 
-pub record Turns (b : Bool) (l e e' heads heads' : List ℕ) (at : ℕ) (r : Result ℕ Senseless) : Type 0 where
-  pub short : (h : ℕ) → r ≡ Ok h → h ≤ at + length l
-  pub is : (m : Model) → Holds e m → ReadyAll b m l → Turnt b m l e' heads heads' at r
+pub record Turns (b : Bool) (l e e' heads' : List ℕ) (r : Result ℕ Senseless) : Type 0 where
+  pub short : (h : ℕ) → r ≡ Ok h → h ≤ length l
+  pub is : (m : Model) → Holds e m → ReadyAll b m l → Turnt b m l e' heads' r
 
 -- what goes is of the old route
 abbrev pub From : List ℕ → List ℕ → Type 0
@@ -66,16 +66,16 @@ abbrev pub Roomy : Model → List ℕ → List ℕ → Type 0
 Roomy m old new = (gone left : List ℕ) → Differs old new gone left → From gone old → ReadyAll true (turn_all false m gone) left
 
 -- some difference of two routes' edges was taken out and put in
-pub record Parted (m : Model) (old new e' went went' : List ℕ) (at : ℕ) (came' : List ℕ) (r : Result (ℕ × ℕ) Senseless) : Type 0 where
+pub record Parted (m : Model) (old new e' went' came' : List ℕ) (r : Result (ℕ × ℕ) Senseless) : Type 0 where
   pub gone : List ℕ
   pub left : List ℕ
   pub differs : Differs old new gone left
   pub from : From gone old
   pub holds : Holds e' (turn_all true (turn_all false m gone) left)
-  pub answer : r ≡ Ok (at + length (heads_all false m gone), length (heads_all true (turn_all false m gone) left))
-  pub went_listed : take (at + length (heads_all false m gone)) went' ≡ take at went ++ heads_all false m gone
+  pub answer : r ≡ Ok (length (heads_all false m gone), length (heads_all true (turn_all false m gone) left))
+  pub went_listed : take (length (heads_all false m gone)) went' ≡ heads_all false m gone
   pub came_listed : take (length (heads_all true (turn_all false m gone) left)) came' ≡ heads_all true (turn_all false m gone) left
 
-pub record Parts (old new e e' went went' : List ℕ) (at : ℕ) (came' : List ℕ) (r : Result (ℕ × ℕ) Senseless) : Type 0 where
-  pub short : (h c : ℕ) → r ≡ Ok (h, c) → (h ≤ at + length old) × (c ≤ length new)
-  pub is : (m : Model) → Holds e m → Roomy m old new → Parted m old new e' went went' at came' r
+pub record Parts (old new e e' went' came' : List ℕ) (r : Result (ℕ × ℕ) Senseless) : Type 0 where
+  pub short : (h c : ℕ) → r ≡ Ok (h, c) → (h ≤ length old) × (c ≤ length new)
+  pub is : (m : Model) → Holds e m → Roomy m old new → Parted m old new e' went' came' r

@@ -24,44 +24,36 @@ fn turn(e: &mut [u16], x: u32, more: bool) -> Result<bool, Senseless>
     Ok(matches!(edges::remove(e, Job(from), Job(to))?, Removed::Vanished))
 }
 
-// The edges s, one after the other, and how far the heads of those that appear or vanish reach.
-fn turn_all(
-    e: &mut [u16],
-    s: &[u32],
-    more: bool,
-    heads: &mut [u16],
-    at: usize,
-) -> Result<usize, Senseless>
-    requires { (length e.old ≡ edges_length) × (at + length s.now ≤ length heads.old) }
-    ensures { Turns more s.now e.old e.new heads.old heads.new at result }
+// The edges s, one after the other. The heads of those that appear or vanish are listed in `heads`; the answer is how many.
+fn turn_all(e: &mut [u16], s: &[u32], more: bool, heads: &mut [u16]) -> Result<usize, Senseless>
+    requires { (length e.old ≡ edges_length) × (length s.now ≤ length heads.old) }
+    ensures { Turns more s.now e.old e.new heads.new result }
 {
-    let mut h = at;
+    let mut n = 0;
     for &x in s {
         if turn(e, x, more)? {
-            heads[h] = (x % JOBS) as u16;
-            h += 1;
+            heads[n] = (x % JOBS) as u16;
+            n += 1;
         }
     }
-    Ok(h)
+    Ok(n)
 }
 
-// The edges of old that have no equal one in new vanish, then those of new appear that have none in old. The answer is how far the heads of
-// those that vanished reach, and of those that appeared.
+// The edges of old that have no equal one in new vanish, then those of new appear that have none in old. The answer is how many heads
+// are listed of those that vanished, and of those that appeared.
 fn exchange_part(
     e: &mut [u16],
     old: &mut [u32],
     new: &mut [u32],
     went: &mut [u16],
-    at: usize,
     came: &mut [u16],
 ) -> Result<(usize, usize), Senseless>
-    requires { (length e.old ≡ edges_length) × (at + length old.old ≤ length went.old) × (length new.old ≤ length came.old) }
-    ensures { Parts old.old new.old e.old e.new
-        went.old went.new at came.new result }
+    requires { (length e.old ≡ edges_length) × (length old.old ≤ length went.old) × (length new.old ≤ length came.old) }
+    ensures { Parts old.old new.old e.old e.new went.new came.new result }
 {
     let g = differences(old, new);
-    let h = turn_all(e, &old[..g], false, went, at)?;
-    let c = turn_all(e, &new[..], true, came, 0)?;
+    let h = turn_all(e, &old[..g], false, went)?;
+    let c = turn_all(e, &new[..], true, came)?;
     Ok((h, c))
 }
 
@@ -71,41 +63,37 @@ fn exchange_links(
     old: &mut [u32],
     new: &mut [u32],
     went: &mut [u16],
-    at: usize,
     came: &mut [u16],
 ) -> Result<(usize, usize), Senseless>
-    requires { (length e.old ≡ edges_length) × (at + length old.old ≤ length went.old) × (length new.old ≤ length came.old) }
-    ensures { Parts old.old new.old e.old e.new
-        went.old went.new at came.new result }
+    requires { (length e.old ≡ edges_length) × (length old.old ≤ length went.old) × (length new.old ≤ length came.old) }
+    ensures { Parts old.old new.old e.old e.new went.new came.new result }
 {
     let f = same_front(&old[..], &new[..]);
     let b = same_back(&old[f..], &new[f..]);
     let i = old.len() - b;
     let j = new.len() - b;
-    exchange_part(e, &mut old[f..i], &mut new[f..j], went, at, came)
+    exchange_part(e, &mut old[f..i], &mut new[f..j], went, came)
 }
 
 // The edges of the stops `old` give way to those of `new`: vanishing edges before appearing ones, each by its first place. The heads of
-// those that vanish are listed in `went` from `at` on, of those that appear in `came`; the answer is how far both reach.
+// those that vanish are listed in `went`, of those that appear in `came`; the answer is how many of both.
 pub fn exchange(
     e: &mut [u16],
     old: &[u16],
     new: &[u16],
     went: &mut [u16],
-    at: usize,
     came: &mut [u16],
 ) -> Result<(usize, usize), Senseless>
     requires sizes { (length e.old ≡ edges_length) × (length old.now ≤ most_entries) × (length new.now ≤ most_entries) }
-    requires room { (at ≤ length went.old) × (length new.now ≤ length came.old) }
-    ensures { EdgesTurn old.now new.now e.old e.new
-        went.old went.new at came.new result }
+    requires room { length new.now ≤ length came.old }
+    ensures { EdgesTurn old.now new.now e.old e.new went.old went.new came.new result }
 {
-    if went.len() - at < old.len() {
+    if went.len() < old.len() {
         return Err(Senseless);
     }
     let mut a = [0u32; Plan::ENTRIES];
     let mut b = [0u32; Plan::ENTRIES];
     let n = links_of(old, &mut a);
     let k = links_of(new, &mut b);
-    exchange_links(e, &mut a[..n], &mut b[..k], went, at, came)
+    exchange_links(e, &mut a[..n], &mut b[..k], went, came)
 }

@@ -6,4 +6,4 @@ use Rattle.routes.proofs.exchange.turn_all.Given as goal
 abbrev pub invariant-loop-x : goal.invariant-loop-x
 invariant-loop-x l =
     (length l.e ≡ edges_length) × (length l.heads ≡ length l.initial.heads)
-    × Sweeping l.more l.s l.initial.e l.initial.heads l.at l.e l.heads l.h l.x-index
+    × Sweeping l.more l.s l.initial.e l.initial.heads l.e l.heads l.n l.x-index
