@@ -3,24 +3,25 @@ use Prim.Native.Nat.{ℕ, zero, suc, ◌+◌, ◌/◌, ◌≤◌, ◌<◌}
 use native.Mathlib.Omega.{arith}
 use native.Mathlib.Numerals.{add-one}
 use mathlib.Core.Path.{◌≡◌, refl, sym, ap, ◌∙◌}
-use mathlib.Core.Bool.{Bool, true, false, not, ◌&&◌}
+use mathlib.Core.Bool.{Bool, true, false, not}
 use mathlib.Core.List.{List, [], ◌∷◌, map}
 use lib.Dec.{ltb}
-use lib.ListN.{length, get_or, set, take, drop, drop_of_length-le, length-map, length-set, length-take}
-use lib.Seq.{sets, get_or-take, drop-cons}
+use Rattle.std.specs.List.{list_all}
+use lib.ListN.{length, get_or, set, drop, drop_of_length-le, length-map, length-set}
+use lib.Seq.{sets, drop-cons}
 use borrow.Author.Rules.{rules}
-use borrow.Author.Tests.{le-ltb, lt-ltb}
 use Rattle.rules.specs.Lists.{all_below, is_zero}
 use Rattle.rules.specs.Routes.{Stop, jobs_of}
 use Rattle.rules.specs.Sizes.{most_entries}
 use Rattle.rules.proofs.Ranges.{clash}
 use Rattle.routes.specs.Stops.{word, words}
+use Rattle.std.specs.Prelude.{Ok, Err}
+use Rattle.rules.specs.declared.Refusal.TheVariants.{BrokenRoute}
 use Rattle.routes.specs.Handing.{Broken, Stopped}
 use Rattle.routes.specs.Store.{route_at}
 use Rattle.routes.proofs.Codes.{half}
 use Rattle.stores.proofs.Tabled.{taken_sets}
 use Rattle.moves.specs.Stopping.{Stops, halves}
-use Rattle.moves.specs.declared.stops.Route.TheVariants.{Of, Broken as Breaks}
 
 -- ── the words halved ──
 
@@ -49,15 +50,15 @@ pub ruleset halving = (rules, halving_none, halving_next, halving_done)
 
 -- ── the route ──
 
-pub stops_broken : {l jobs : List ℕ} {o : ℕ} {b : Bool} → Broken l o b → b ≡ true → Stops l o Breaks jobs
-stops_broken {l} {o = o} B z = record { is = λ m H. pos (route_at m o).invalid (sym (B m H) ∙ z) }
+pub stops_broken : {l jobs : List ℕ} {o : ℕ} {b : Bool} → Broken l o b → b ≡ true → Stops l o (Err BrokenRoute) jobs
+stops_broken {l} {o = o} B z = record { is = (refl, λ m H. pos (route_at m o).invalid (sym (B m H) ∙ z)) }
   where
     pos : (k : ℕ) → not (is_zero k) ≡ true → 0 < k
     pos zero e = clash e refl
     pos (suc k) e = omega arith
 
 pub stops_are : {l row jobs : List ℕ} {o : ℕ} {b : Bool} (out : List ℕ) → Broken l o b → b ≡ false → Stopped l o row → length out ≡ most_entries
-    → jobs ≡ sets out 0 (halves row) → Stops l o (Of (length row)) jobs
+    → jobs ≡ sets out 0 (halves row) → Stops l o (Ok (length row)) jobs
 stops_are {l} {row} {jobs} {o} out B z T lo q = record {
   is = (
     T.short,
@@ -84,25 +85,7 @@ pub ruleset stopped = (rules, stops_broken, stops_are)
 
 -- ── jobs below n ──
 
-pub record Testing (jobs : List ℕ) (k n i : ℕ) : Type 0 where
-  pub within : i ≤ k
-  pub is : all_below n (drop i (take k jobs)) ≡ all_below n (take k jobs)
-
-pub testing_none : (jobs : List ℕ) (k n : ℕ) → Testing jobs k n 0
-testing_none jobs k n = record { within = omega arith; is = refl }
-
-module _ {jobs : List ℕ} {k n i : ℕ} (T : Testing jobs k n i) where
-  pub testing_done : k ≤ i → true ≡ all_below n (take k jobs)
-  testing_done h = sym (ap (all_below n) (drop_of_length-le (take k jobs) {i = i} (simp length-take (omega arith)))) ∙ T.is
-
-  module _ (room : k ≤ length jobs) (h : i < k) where
-    here : ltb (get_or jobs i 0) n && all_below n (drop (i + 1) (take k jobs)) ≡ all_below n (take k jobs)
-    here =
-        rw (← get_or-take k jobs i 0 h, add-one)
-        (sym (ap (all_below n) (drop-cons (take k jobs) i 0 (simp length-take (omega arith)))) ∙ T.is)
-
-    pub testing_bad : n ≤ get_or jobs i 0 → false ≡ all_below n (take k jobs)
-    testing_bad b = rw (le-ltb (get_or jobs i 0) n b) at here
-
-    pub testing_next : get_or jobs i 0 < n → Testing jobs k n (i + 1)
-    testing_next b = record { within = omega arith; is = rw (lt-ltb (get_or jobs i 0) n b) at here }
+-- the tests of the numbers, one after the other, are the rules' test of them all
+pub below_tested : (n : ℕ) (jobs : List ℕ) → list_all (λ v. ltb v n) jobs ≡ all_below n jobs
+below_tested n [] = refl
+below_tested n (v ∷ l) = rw (below_tested n l)

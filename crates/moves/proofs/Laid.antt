@@ -5,6 +5,7 @@ use native.Mathlib.Omega.{arith}
 use mathlib.Core.Path.{◌≡◌, refl, sym, ap, ◌∙◌}
 use mathlib.Core.Bool.{true, cond}
 use mathlib.Core.List.{List, [], ◌∷◌, ◌++◌, map, append_assoc}
+use Rattle.std.proofs.Common.{append-nil}
 use lib.Dec.{ltb}
 use lib.ListN.{length, get_or, set, take, drop, drop_of_length-le, length-append, length-take, length-drop, length-map, length-set}
 use lib.Seq.{sets, sets-eq, take_at, drop-drop, take-take, take_all, take-append-le, drop-append-le, take-append-add, drop-append-add, slice as between, get_or-take, get_or-drop, take-nil, drop-cons}
@@ -46,49 +47,52 @@ cut (suc f) zero l = ap (λ (k : ℕ). take k (drop (suc f) l)) (let e : 0 ≡ 0
 cut (suc f) (suc t) [] = sym (take-nil (suc t - suc f))
 cut (suc f) (suc t) (x ∷ l) = cut f t l ∙ ap (λ (k : ℕ). take k (drop f l)) (let e : t - f ≡ suc t - suc f = omega arith in e)
 
-module _ (old : List ℕ) (n : ℕ) (fits : n ≤ length old) where
-  -- a copy of k words of the first n, from f on up to t
-  pub lay_copy : {p new l m : List ℕ} {at : ℕ} (f k t to : ℕ) → Laid p at new l → m ≡ sets l at (between f (f + k) old)
-      → f + k ≡ t → t ≤ n → to ≡ at + k → to ≤ length new → Laid (p ++ slice f t (take n old)) to new m
-  lay_copy {p} {new} {l} {m} {at} f k t to h is q within e room =
-      let x : between f (f + k) old ≡ slice f t (take n old) =
-      ap (λ (j : ℕ). between f j old) q ∙ ap (drop f) (sym (take-take t n old within)) ∙ cut f t (take n old) in
-      let s : length (slice f t (take n old)) ≡ t - f = simp (length-take, length-drop) (omega arith) in
-      rw (is, x) (lay (slice f t (take n old)) to h (omega arith) room)
+-- the places of a piece of old come next
+lay_piece : {p new l m : List ℕ} {at : ℕ} (old : List ℕ) (f t to : ℕ) → Laid p at new l → m ≡ sets l at (slice f t old) → t ≤ length old
+    → to ≡ at + (t - f) → to ≤ length new → Laid (p ++ slice f t old) to new m
+lay_piece old f t to h is within e room =
+    let s : length (slice f t old) ≡ t - f = simp (length-take, length-drop) (omega arith) in
+    rw is (lay (slice f t old) to h (omega arith) room)
 
-  -- the first and the last piece
-  pub front : (a : ℕ) → slice 0 a (take n old) ≡ take a (take n old)
-  front a = ap (λ (k : ℕ). take k (take n old)) (let e : a - 0 ≡ a = omega arith in e)
+-- the last piece fills what is left
+lay_rest : {p new l m : List ℕ} {at : ℕ} (old : List ℕ) → Laid p at new l → m ≡ sets l at (slice at (length old) old) → at ≤ length old
+    → length new ≡ length old → m ≡ p ++ drop at old
+lay_rest {p} {new} {at = at} old h is within e =
+    let s : length (drop at old) ≡ length old - at = simp length-drop in
+    let L = lay (drop at old) (length old) h (omega arith) (omega arith) in
+    is ∙ ap (sets _ at) (take_all (length old - at) (drop at old) (omega arith)) ∙ L.is
+    ∙ ap (λ (y : List ℕ). (p ++ drop at old) ++ y) (drop_of_length-le new {i = length old} (omega arith))
+    ∙ append-nil (p ++ drop at old)
 
-  pub rest : (d : ℕ) → slice d n (take n old) ≡ drop d (take n old)
-  rest d = take_all (n - d) (drop d (take n old)) (simp (length-drop, length-take) (omega arith))
+start : (new : List ℕ) → Laid [] 0 new new
+start new = record { is = refl; size = refl }
 
-module _ {n a b c d : ℕ} {old new : List ℕ} (h : Ranges n a b c d old new) where
+whole : (a : ℕ) (l : List ℕ) → slice 0 a l ≡ take a l
+whole a l = ap (λ (k : ℕ). take k l) (let e : a - 0 ≡ a = omega arith in e)
+
+module _ {a b c d : ℕ} {old new : List ℕ} (h : Ranges a b c d old new) where
   -- the five pieces of a swap
   swap_pieces :
-      (((slice 0 a (take n old) ++ slice c d (take n old)) ++ slice b c (take n old)) ++ slice a b (take n old)) ++ slice d n (take n old)
-      ≡ moved (sublist_swap a b c d) (take n old)
+      (((slice 0 a old ++ slice c d old) ++ slice b c old) ++ slice a b old) ++ drop d old ≡ moved (sublist_swap a b c d) old
   unfolding moved
   swap_pieces =
-      rw (front old n h.old_room a, rest old n h.old_room d, le-leb a c (omega (arith, h.left, h.apart)))
-      (simp append_assoc)
+      rw (whole a old, le-leb a c (omega (arith, h.left, h.apart))) (simp append_assoc)
 
   -- the five copies of a swap
   pub swap_laid : {x1 x2 x3 x4 x5 : List ℕ}
-      → x1 ≡ sets new 0 (between 0 (0 + a) old)
-      → x2 ≡ sets x1 a (between c (c + (d - c)) old)
-      → x3 ≡ sets x2 (a + (d - c)) (between b (b + (c - b)) old)
-      → x4 ≡ sets x3 (a + (d - b)) (between a (a + (b - a)) old)
-      → x5 ≡ sets x4 d (between d (d + (n - d)) old)
-      → x5 ≡ moved (sublist_swap a b c d) (take n old) ++ drop n new
+      → x1 ≡ sets new 0 (take a old)
+      → x2 ≡ sets x1 a (slice c d old)
+      → x3 ≡ sets x2 (a + (d - c)) (slice b c old)
+      → x4 ≡ sets x3 (a + (d - b)) (slice a b old)
+      → x5 ≡ sets x4 d (slice d (length old) old)
+      → x5 ≡ moved (sublist_swap a b c d) old
   swap_laid e1 e2 e3 e4 e5 =
-      let l0 : Laid [] 0 new new = record { is = refl; size = refl } in
-      let l1 = lay_copy old n h.old_room 0 a a a l0 e1 (omega arith) (omega arith) (omega arith) (omega arith) in
-      let l2 = lay_copy old n h.old_room c (d - c) d (a + (d - c)) l1 e2 (omega arith) (omega arith) (omega arith) (omega arith) in
-      let l3 = lay_copy old n h.old_room b (c - b) c (a + (d - b)) l2 e3 (omega arith) (omega arith) (omega arith) (omega arith) in
-      let l4 = lay_copy old n h.old_room a (b - a) b d l3 e4 (omega arith) (omega arith) (omega arith) (omega arith) in
-      let l5 = lay_copy old n h.old_room d (n - d) n n l4 e5 (omega arith) (omega arith) (omega arith) (omega arith) in
-      l5.is ∙ ap (λ (y : List ℕ). y ++ drop n new) swap_pieces
+      let l = h.left in let m = h.apart in let r = h.right in let w = h.within in let q = h.room in
+      let l1 = lay_piece old 0 a a (start new) (e1 ∙ ap (sets new 0) (sym (whole a old))) (omega arith) (omega arith) (omega arith) in
+      let l2 = lay_piece old c d (a + (d - c)) l1 e2 (omega arith) (omega arith) (omega arith) in
+      let l3 = lay_piece old b c (a + (d - b)) l2 e3 (omega arith) (omega arith) (omega arith) in
+      let l4 = lay_piece old a b d l3 e4 (omega arith) (omega arith) (omega arith) in
+      lay_rest old l4 e5 w q ∙ swap_pieces
 
 -- ── a permutation ──
 
@@ -127,29 +131,24 @@ map_same : (f g : ℕ → ℕ) (k : ℕ) (l : List ℕ) → all_below k l ≡ tr
 map_same f g k [] e h = refl
 map_same f g k (x ∷ l) e h = let (p, q) = and_true {a = ltb x k} e in rw (h x (ltb-true x k p), map_same f g k l q h)
 
-module _ {n a b : ℕ} {old new : List ℕ} (h : Piece n a b old new) (list : List ℕ) (all : length list ≡ b - a)
+module _ {a b : ℕ} {old new : List ℕ} (h : Piece a b old new) (list : List ℕ) (all : length list ≡ b - a)
     (low : all_below (b - a) list ≡ true) where
-  picked : map (λ i. get_or old (a + i) 0) list ≡ map (λ i. get_or (slice a b (take n old)) i 0) list
-  picked = map_same (λ i. get_or old (a + i) 0) (λ i. get_or (slice a b (take n old)) i 0) (b - a) list low
-      (λ i k. sym (get_or-take (b - a) (drop a (take n old)) i 0 k ∙ get_or-drop a (take n old) i 0 ∙ get_or-take n old (a + i) 0 (omega arith)))
+  picked : map (λ i. get_or old (a + i) 0) list ≡ map (λ i. get_or (slice a b old) i 0) list
+  picked = map_same (λ i. get_or old (a + i) 0) (λ i. get_or (slice a b old) i 0) (b - a) list low
+      (λ i k. sym (get_or-take (b - a) (drop a old) i 0 k ∙ get_or-drop a old i 0))
 
   pub permute_laid : {x1 x2 x3 : List ℕ}
-      → x1 ≡ sets new 0 (between 0 (0 + a) old)
+      → x1 ≡ sets new 0 (take a old)
       → x2 ≡ sets x1 a (map (λ i. get_or old (a + i) 0) list)
-      → x3 ≡ sets x2 b (between b (b + (n - b)) old)
-      → x3 ≡ moved (permutation a b list) (take n old) ++ drop n new
+      → x3 ≡ sets x2 b (slice b (length old) old)
+      → x3 ≡ moved (permutation a b list) old
   unfolding moved
   permute_laid {x1} {x2} e1 e2 e3 =
-      let l0 : Laid [] 0 new new = record { is = refl; size = refl } in
-      let l1 = lay_copy old n h.old_room 0 a a a l0 e1 (omega arith) (omega arith) (omega arith) (omega arith) in
-      let g : List ℕ = map (λ i. get_or (slice a b (take n old)) i 0) list in
-      let l2 : Laid (slice 0 a (take n old) ++ g) b new x2 = rw (e2, picked) (lay g b l1 (simp length-map (omega arith)) (omega arith)) in
-      let l3 = lay_copy old n h.old_room b (n - b) n n l2 e3 (omega arith) (omega arith) (omega arith) (omega arith) in
-      l3.is
-      ∙ ap (λ (y : List ℕ). y ++ drop n new)
-      (ap (λ (y : List ℕ). (y ++ g) ++ slice b n (take n old)) (front old n h.old_room a)
-      ∙ ap (λ (y : List ℕ). (take a (take n old) ++ g) ++ y) (rest old n h.old_room b)
-      ∙ append_assoc (take a (take n old)) g (drop b (take n old)))
+      let o = h.order in let w = h.within in let q = h.room in
+      let l1 = lay_piece old 0 a a (start new) (e1 ∙ ap (sets new 0) (sym (whole a old))) (omega arith) (omega arith) (omega arith) in
+      let g : List ℕ = map (λ i. get_or (slice a b old) i 0) list in
+      let l2 : Laid (slice 0 a old ++ g) b new x2 = rw (e2, picked) (lay g b l1 (simp length-map (omega arith)) (omega arith)) in
+      lay_rest old l2 e3 w q ∙ append_assoc (slice 0 a old) g (drop b old) ∙ ap (λ (y : List ℕ). y ++ (g ++ drop b old)) (whole a old)
 
 -- ── the same list ──
 
@@ -192,16 +191,9 @@ change_on a b dest l h k m =
     rw (le-leb a b k, none b l, t, u, e) (simp append_assoc)
 
 -- what a change leaves: the swap's words
-in_route : {n a b : ℕ} {old new : List ℕ} → Piece n a b old new → b ≤ length (take n old)
-in_route h = simp length-take (omega (arith, h.within, h.old_room))
+module _ {a b : ℕ} {old new x : List ℕ} (h : Piece a b old new) (dest : ℕ) where
+  pub back_laid : dest ≤ a → x ≡ moved (sublist_swap dest a a b) old → x ≡ moved (sublist_change a b dest) old
+  back_laid k e = e ∙ sym (change_back a b dest old k h.order h.within)
 
-module _ {n a b : ℕ} {old new x : List ℕ} (h : Piece n a b old new) (dest : ℕ) where
-  pub back_laid : dest ≤ a → x ≡ moved (sublist_swap dest a a b) (take n old) ++ drop n new
-      → x ≡ moved (sublist_change a b dest) (take n old) ++ drop n new
-  back_laid k e =
-      e ∙ ap (λ (y : List ℕ). y ++ drop n new) (sym (change_back a b dest (take n old) k h.order (in_route h)))
-
-  pub on_laid : a < dest → x ≡ moved (sublist_swap a b b (b + (dest - a))) (take n old) ++ drop n new
-      → x ≡ moved (sublist_change a b dest) (take n old) ++ drop n new
-  on_laid k e =
-      e ∙ ap (λ (y : List ℕ). y ++ drop n new) (sym (change_on a b dest (take n old) k h.order (in_route h)))
+  pub on_laid : a < dest → x ≡ moved (sublist_swap a b b (b + (dest - a))) old → x ≡ moved (sublist_change a b dest) old
+  on_laid k e = e ∙ sym (change_on a b dest old k h.order h.within)

@@ -8,9 +8,8 @@ use mathlib.Core.Logic.{◌⊎◌, inl, inr}
 use mathlib.Core.List.{List, [], ◌∷◌, ◌++◌, append_assoc, map}
 use lib.Dec.{eqb, ltb}
 use lib.ListN.{length, get_or, take, drop, length-drop, length-map, replicate}
-use lib.Seq.{sets, length-sets, length-take-le, take-take, take_at, drop_at}
-use borrow.Author.Rules.{rules}
-use borrow.Author.Tests.{ne_eqb, le-leb, lt-leb, le-ltb, lt-ltb, ltb-true, ltb-false, not-false, not-true}
+use lib.Seq.{sets, length-sets, length-take-le, take-take, take_all, take_at, drop_at}
+use borrow.Author.Tests.{ne_eqb, le-leb, lt-leb, le-ltb, lt-ltb, ltb-true, ltb-false}
 use Rattle.rules.specs.declared.Plan.{Plan as Counts}
 use Rattle.rules.specs.declared.Refusal.{Refusal}
 use Rattle.rules.specs.declared.Refusal.TheVariants.{BadPositions, BadStore, BrokenRoute, NoSuchOwner, ShortAnswer}
@@ -33,8 +32,6 @@ use Rattle.stores.specs.Headers.{open_of, counts_of}
 use Rattle.stores.specs.Promise.{Heeds, Decided, Held, Promise, Slices, answer_of, lent_of}
 use Rattle.stores.specs.Says.{places}
 use Rattle.stores.specs.Words.{base_words, from_at, froms, padded, to_at, tos}
-use Rattle.stores.specs.declared.header.Header.{Header}
-use Rattle.stores.specs.declared.header.Header.TheVariants.{Is as Headed, Refused as Unopened}
 use Rattle.stores.proofs.Laying.{padded_length}
 use Rattle.stores.proofs.Openings.{open_short, open_some}
 use Rattle.stores.proofs.Promises.{closed_kept, decided_read, decided_refused, opened_kept, refusal_long, heeds_first, heeds_later}
@@ -48,12 +45,8 @@ use Rattle.probes.specs.Judges.{Checks, on_for, stays_for, verdicts}
 use Rattle.probes.specs.Pairs.{Rising}
 use Rattle.probes.specs.declared.checks.Checked.{Checked}
 use Rattle.moves.specs.Stopping.{Stops, Whole}
-use Rattle.moves.specs.declared.moved.Begun.{Begun}
-use Rattle.moves.specs.declared.moved.Begun.TheVariants.{Is as Ready, Refused as Unready}
-use Rattle.moves.specs.declared.stops.Route.{Route as Stopped}
-use Rattle.moves.specs.declared.stops.Route.TheVariants.{Of, Broken}
 use Rattle.moves.specs.declared.moved.Moved.{Moved}
-use Rattle.moves.specs.declared.moved.Moved.TheVariants.{Is, Refused}
+use Rattle.std.specs.Prelude.{Result, Ok, Err}
 
 -- ── the fixed pairs ──
 
@@ -120,6 +113,9 @@ valid_times n u v ((a, b) ∷ l) h = look (test (ltb b n)) (valid_times n u v l 
 
 -- ── the jobs of a route ──
 
+pub route_long : {p : Plan} {o : ℕ} {old : List ℕ} → Route p o old → length old ≡ length (route_of p o).stops
+route_long {p} {o} R = ap length R.are ∙ length-map (route_of p o).stops (λ (s : Stop). s.0)
+
 low_stops : (n : ℕ) (l : List Stop) → LowStops n l → all_below n (map (λ (s : Stop). s.0) l) ≡ true
 low_stops n [] h = refl
 low_stops n (s ∷ l) (a, h) = rw (lt-ltb s.0 n a, low_stops n l h)
@@ -131,145 +127,129 @@ all_low n (v ∷ l) f =
 
 -- ── the verdicts ──
 
-module _ {base e tms : List ℕ} {plan : Counts} {p : Plan} (W : Words base e tms plan p) {o k : ℕ} {old : List ℕ} (R : Route p o k old)
-    (new : List ℕ) (m : Move) (good : good_positions k m ≡ true) (made : take k new ≡ moved m (take k old)) where
-  good_stops : good_positions (length (route_of p o).stops) m ≡ true
-  good_stops = rw R.long at good
+counted : {base e tms : List ℕ} {plan : Counts} {p : Plan} → Words base e tms plan p → plan.jobs ≡ p.base.jobs
+counted W = ap (λ (x : Counts). x.jobs) W.counts
 
-  new_is : take k new ≡ new_route p o m
+module _ {base e tms : List ℕ} {plan : Counts} {p : Plan} (W : Words base e tms plan p) {o : ℕ} {old : List ℕ} (R : Route p o old)
+    (new : List ℕ) (m : Move) (good : good_positions (length old) m ≡ true) (made : new ≡ moved m old) where
+  good_stops : good_positions (length (route_of p o).stops) m ≡ true
+  good_stops = rw (route_long R) at good
+
+  new_is : new ≡ new_route p o m
   unfolding new_route
   new_is = made ∙ ap (moved m) R.are
 
-  old_low : all_below p.base.jobs (take k old) ≡ true
+  old_low : all_below p.base.jobs old ≡ true
   old_low = rw R.are (low_stops p.base.jobs (route_of p o).stops (W.sound.reads o).low)
 
-  new_low : all_below p.base.jobs (take k new) ≡ true
+  new_low : all_below p.base.jobs new ≡ true
   new_low = rw new_is (all_low p.base.jobs (new_route p o m) (λ v q.
       below_all p.base.jobs (jobs_of (route_of p o)) (rw R.are at old_low) v
       (sym (new_jobs p o m good_stops v) ∙ q)))
 
-  on_moved : on_for (take k old) (take k new) (edges_of p) (is_fixed p) ≡ moved_on p o m
+  on_moved : on_for old new (edges_of p) (is_fixed p) ≡ moved_on p o m
   unfolding moved_on
   on_moved = rw (R.are, new_is, live_fun p W.sound)
 
-  stays_moved : stays_for (take k old) (take k new) (edges_of p) (is_fixed p) ≡ moved_stays p o m
+  stays_moved : stays_for old new (edges_of p) (is_fixed p) ≡ moved_stays p o m
   unfolding moved_stays
   stays_moved = rw (R.are, new_is, live_fun p W.sound)
 
   abbrev quick_of : Bool
-  quick_of = quick_check p.base.jobs (on_for (take k old) (take k new) (edges_of p) (is_fixed p))
-      (stays_for (take k old) (take k new) (edges_of p) (is_fixed p))
+  quick_of = quick_check p.base.jobs (on_for old new (edges_of p) (is_fixed p)) (stays_for old new (edges_of p) (is_fixed p))
 
   abbrev full_of : Bool
-  full_of = full_check p.base.jobs (on_for (take k old) (take k new) (edges_of p) (is_fixed p))
+  full_of = full_check p.base.jobs (on_for old new (edges_of p) (is_fixed p))
 
   quick_moved : quick_of ≡ is_moved_quick p o m
   unfolding is_moved_quick
   quick_moved =
-      ap (λ (E : Graph). quick_check p.base.jobs E (stays_for (take k old) (take k new) (edges_of p) (is_fixed p))) on_moved
+      ap (λ (E : Graph). quick_check p.base.jobs E (stays_for old new (edges_of p) (is_fixed p))) on_moved
       ∙ ap (λ (S : Graph). quick_check p.base.jobs (moved_on p o m) S) stays_moved
 
   full_moved : full_of ≡ is_moved_cyclic p o m
   unfolding is_moved_cyclic
   full_moved = ap (full_check p.base.jobs) on_moved
 
-  module _ {n j : ℕ} {from to : List ℕ} {was : Bool} (en : n ≡ plan.jobs) (ej : j ≡ plan.fixed)
-      (ef : from ≡ take j (drop from_at base)) (et : to ≡ take j (drop to_at base)) (ew : was ≡ cyclic_in tms) where
-    ej' : j ≡ length p.base.fixed
-    ej' = ej ∙ ap (λ (x : Counts). x.fixed) W.counts
+  module _ {from to : List ℕ} {was : Bool}
+      (ef : from ≡ take plan.fixed (drop from_at base)) (et : to ≡ take plan.fixed (drop to_at base)) (ew : was ≡ cyclic_in tms) where
+    fixed_long : plan.fixed ≡ length p.base.fixed
+    fixed_long = ap (λ (x : Counts). x.fixed) W.counts
 
     fixed_is : (u v : ℕ) → u < p.base.jobs → v < p.base.jobs → is_fixed p u v ≡ occurs (pair_up from to) u v
     unfolding is_fixed
     fixed_is u v hu hv =
         ap (λ (x : ℕ). not (is_zero x)) (valid_times p.base.jobs u v p.base.fixed hv)
-        ∙ ap (λ (l : List Pair). occurs l u v) (sym (pairs_are base p.base W.base W.sound.loaded.fixed ej' ef et))
+        ∙ ap (λ (l : List Pair). occurs l u v) (sym (pairs_are base p.base W.base W.sound.loaded.fixed fixed_long ef et))
 
     calm : was ≡ false → (b : Bool) → get_or tms 0 0 ≡ tick b 0 → b ≡ false
     calm q true h = let x : was ≡ true = ew ∙ rw h in clash x q
     calm q false h = refl
 
-    pub checks_are : {c : Checked} → Checks from to e (take k old) (take k new) n was c → c ≡ verdicts (is_moved_quick p o m) (is_moved_cyclic p o m)
+    pub checks_are : {c : Checked} → Checks from to e old new plan.jobs was c → c ≡ verdicts (is_moved_quick p o m) (is_moved_cyclic p o m)
     checks_are {c} C =
-        let en' : n ≡ p.base.jobs = en ∙ ap (λ (x : Counts). x.jobs) W.counts in
-        let C' : Checks from to e (take k old) (take k new) p.base.jobs was c = rw en' at C in
+        let C' : Checks from to e old new p.base.jobs was c = rw (counted W) at C in
         C'.is (edges_of p) (is_fixed p) W.edges (below p W.sound)
-        (rising_is base p.base W.base W.sound.loaded.fixed ej' ef et W.sound.loaded.rising) fixed_is
+        (rising_is base p.base W.base W.sound.loaded.fixed fixed_long ef et W.sound.loaded.rising) fixed_is
         (λ q. quick_moved ∙ sym (checks_agree_calm p o m (calm q (is_cyclic p) (timed p tms W.times).0)) ∙ sym full_moved)
         ∙ ap (λ (x : Bool). verdicts x full_of) quick_moved
         ∙ ap (λ (x : Bool). verdicts (is_moved_quick p o m) x) full_moved
 
-  pub answers_are : {out out' : List ℕ} {x y : Bool} → k ≤ length out → k ≤ length new → out' ≡ sets out 0 (take k new)
-      → x ≡ is_moved_quick p o m → y ≡ is_moved_cyclic p o m → Answers p o m out (Is k x y) out'
-  answers_are {out} {out'} {x} {y} room lent w a b =
-      let q : places k out' ≡ new_route p o m =
-      places_take k out' (let a = length-sets out 0 (take k new) in let b = ap length w in omega arith)
-      ∙ ap (take k) w ∙ taken_sets out (take k new) k (length-take-le k new lent) room ∙ new_is in
+  pub answers_are : {out out' : List ℕ} {x y : Bool} → length new ≤ length out → out' ≡ sets out 0 new
+      → x ≡ is_moved_quick p o m → y ≡ is_moved_cyclic p o m
+      → Answers p o m out (Ok (record { length = length new; quick = x; full = y })) out'
+  answers_are {out} {out'} {x} {y} room w a b =
+      let q : places (length new) out' ≡ new_route p o m =
+      places_take (length new) out' (let a = length-sets out 0 new in let b = ap length w in omega arith)
+      ∙ ap (take (length new)) w ∙ taken_sets out new (length new) refl room ∙ new_is in
       record { says = rw (q, a, b); answers = w ∙ ap (sets out 0) new_is }
 
 -- ── what the code answers ──
 
-bad_twelve : (j : Refusal) → Refused BadStore ≡ Refused j → j ≡ BadStore
+bad_twelve : (j : Refusal) → ◌≡◌ {A = Result Moved Refusal} (Err BadStore) (Err j) → j ≡ BadStore
 bad_twelve j e = cc
 
-counted : {base e tms : List ℕ} {plan : Counts} {p : Plan} {n : ℕ} → n ≡ plan.jobs → Words base e tms plan p → n ≡ p.base.jobs
-counted en W = en ∙ ap (λ (x : Counts). x.jobs) W.counts
-
-module _ {base e tms : List ℕ} {plan : Counts} {old new : List ℕ} {k : ℕ} {out : List ℕ} {n : ℕ} where
-  pub judge_old : {b : Bool} {out' : List ℕ} → b ≡ all_below n (take k old) → not b ≡ true → n ≡ plan.jobs
-      → Judges base e tms plan old new k out (Refused BadStore) out'
-  judge_old {b} q f en = record {
+module _ {s : Slices} {plan : Counts} {old new out : List ℕ} where
+  pub judge_old : {b : Bool} {out' : List ℕ} → b ≡ all_below plan.jobs old → b ≡ false → Judges s plan old new out (Err BadStore) out'
+  judge_old q f = record {
     twelve = bad_twelve;
-    is = λ p W o m R g w. clash (rw (counted en W) (old_low W R new m g w)) (sym q ∙ not-true b f);
+    is = λ p W o m R g w. clash (rw (counted W) (old_low W R new m g w)) (sym q ∙ f);
   }
 
-  pub judge_new : {b : Bool} {out' : List ℕ} → b ≡ all_below n (take k new) → not b ≡ true → n ≡ plan.jobs
-      → Judges base e tms plan old new k out (Refused BadStore) out'
-  judge_new {b} q f en = record {
+  pub judge_new : {b : Bool} {out' : List ℕ} → b ≡ all_below plan.jobs new → b ≡ false → Judges s plan old new out (Err BadStore) out'
+  judge_new q f = record {
     twelve = bad_twelve;
-    is = λ p W o m R g w. clash (rw (counted en W) (new_low W R new m g w)) (sym q ∙ not-true b f);
+    is = λ p W o m R g w. clash (rw (counted W) (new_low W R new m g w)) (sym q ∙ f);
   }
 
-  pub judge_shown : {from to : List ℕ} {was : Bool} {c : Checked} {out' : List ℕ} {j : ℕ}
-      → Checks from to e (take k old) (take k new) n was c → out' ≡ sets out 0 (take k new)
-      → from ≡ take j (drop from_at base) → to ≡ take j (drop to_at base) → was ≡ cyclic_in tms → n ≡ plan.jobs → j ≡ plan.fixed
-      → length new ≡ most_entries → k ≤ most_entries → k ≤ length out
-      → Judges base e tms plan old new k out (Is k c.quick c.full) out'
-  judge_shown {c = c} C w' ef et ew en ej long few room = record {
+  pub judge_shown : {from to : List ℕ} {was : Bool} {c : Checked} {out' : List ℕ}
+      → Checks from to (take edges_length s.edges) old new plan.jobs was c → out' ≡ sets out 0 (take (length new) new)
+      → from ≡ take plan.fixed (drop from_at s.base) → to ≡ take plan.fixed (drop to_at s.base) → was ≡ cyclic_in s.times
+      → length new ≤ length out
+      → Judges s plan old new out (Ok (record { length = length new; quick = c.quick; full = c.full })) out'
+  judge_shown {c = c} C w' ef et ew room = record {
     twelve = λ j z. absurd (let y : ◌≡◌ {A = ℕ} 0 1 = cc in omega arith);
     is = λ p W o m R g w.
-        let q = checks_are W R new m g w en ej ef et ew C in
-        answers_are W R new m g w room (omega arith) w' (ap (λ (x : Checked). x.quick) q) (ap (λ (x : Checked). x.full) q);
+        let q = checks_are W R new m g w ef et ew C in
+        answers_are W R new m g w room (w' ∙ ap (sets out 0) (take_all (length new) new (omega arith)))
+        (ap (λ (x : Checked). x.quick) q) (ap (λ (x : Checked). x.full) q);
   }
 
 -- ── what the check asks ──
 
 -- the fixed list's two parts are of one length
-pub parts_even : (base : List ℕ) {from to : List ℕ} {j k : ℕ} → from ≡ take k (drop from_at base) → to ≡ take k (drop to_at base)
-    → base_length ≤ length base → k ≡ j → j ≤ most_fixed → length from ≡ length to
-parts_even base {k = k} ef et h ek hj =
+pub parts_even : (base : List ℕ) {from to : List ℕ} {k : ℕ} → from ≡ take k (drop from_at base) → to ≡ take k (drop to_at base)
+    → base_length ≤ length base → k ≤ most_fixed → length from ≡ length to
+parts_even base {k = k} ef et h hk =
     ap length ef ∙ length-take-le k (drop from_at base) (simp length-drop (omega arith))
     ∙ sym (ap length et ∙ length-take-le k (drop to_at base) (simp length-drop (omega arith)))
 
-pub front_long : (l : List ℕ) {k n : ℕ} → length l ≡ n → k ≤ n → length (take k l) ≡ k
-front_long l {k} e h = length-take-le k l (omega arith)
-
-pub front_few : (l : List ℕ) {k n : ℕ} → length l ≡ n → k ≤ n → length (take k l) ≤ n
-front_few l {k} e h = let q = front_long l e h in omega arith
-
-pub count_few : {n m k : ℕ} → n ≡ m → m ≤ k → n ≤ k
-count_few e h = omega arith
-
-pub tested : {b c : Bool} → b ≡ c → not b ≡ false → c ≡ true
-tested {b} e f = sym e ∙ not-false b f
-
-pub ruleset judging = (rules, judge_old, judge_new, judge_shown, front_long)
-
-module _ {base e tms : List ℕ} {plan : Counts} {old new : List ℕ} {k : ℕ} {out : List ℕ} where
-  pub finish_few : length out < k → Finishes base e tms plan old new k out (Refused ShortAnswer) out
+module _ {s : Slices} {plan : Counts} {old new out : List ℕ} where
+  pub finish_few : length out < length new → Finishes s plan old new out (Err ShortAnswer) out
   finish_few h = record { few = λ _. (refl, refl); enough = λ g. absurd (omega arith) }
 
-  pub finish_judged : {r : Moved} {out' : List ℕ} → k ≤ length out → Judges base e tms plan old new k out r out'
-      → Finishes base e tms plan old new k out r out'
+  pub finish_judged : {r : Result Moved Refusal} {out' : List ℕ} → length new ≤ length out → Judges s plan old new out r out'
+      → Finishes s plan old new out r out'
   finish_judged h J = record { few = λ g. absurd (omega arith); enough = λ _. J }
 
 -- ── the owner's route ──
@@ -301,14 +281,14 @@ module _ (p : Plan) (o : ℕ) (m : Move) (room : ℕ) where
         fine : length (route_of p o).stops ≤ room → first ≡ none
         fine h = rw (lt-leb p.base.owners o owner, whole, good, le-ltb room (length (route_of p o).stops) h)
 
-module _ (s : Slices) (o : ℕ) {h : Header} (opens : h ≡ open_of (lent_of s) s.base) where
-  pub begins_closed : {jobs : List ℕ} {r : Refusal} → h ≡ Unopened r → Begins s o jobs (Unready r)
+module _ (s : Slices) (o : ℕ) {h : Result Counts Refusal} (opens : h ≡ open_of (lent_of s) s.base) where
+  pub begins_closed : {jobs : List ℕ} {r : Refusal} → h ≡ Err r → Begins s o jobs (Err r)
   begins_closed q = record { is = λ m out. closed_kept (to_move o m (length out)) s opens out refl q }
 
-  module _ {plan : Counts} (is : h ≡ Headed plan) where
+  module _ {plan : Counts} (is : h ≡ Ok plan) where
     -- refused for what is true of every plan that the store stands for
     refuses : {jobs : List ℕ} (r : Refusal) → ((m : Move) (out : List ℕ) → Heeds (to_move o m (length out)) s s out out (refused r)) → ((p : Plan) → Held s p → plan ≡ counts_of p.base → (m : Move) (k : ℕ) → first p o m k ≡ some r)
-        → Begins s o jobs (Unready r)
+        → Begins s o jobs (Err r)
     refuses r n f = record {
       is = λ m out. opened_kept (to_move o m (length out)) s opens s out out (refused r) is (λ g p H q.
           decided_refused (some p) (to_move o m (length out)) s out r
@@ -322,7 +302,7 @@ module _ (s : Slices) (o : ℕ) {h : Header} (opens : h ≡ open_of (lent_of s) 
     heeded w r y m out = heeds_later (to_move o m (length out)) s opens (rw (is, lt-leb plan.owners o w))
         (λ k e. let z : r ≡ k = cc in rw z at y) (λ k e x. (refl, refl))
 
-    pub begins_nobody : {jobs : List ℕ} {b : Bool} → b ≡ ltb o plan.owners → b ≡ false → Begins s o jobs (Unready NoSuchOwner)
+    pub begins_nobody : {jobs : List ℕ} {b : Bool} → b ≡ ltb o plan.owners → b ≡ false → Begins s o jobs (Err NoSuchOwner)
     begins_nobody e f = refuses NoSuchOwner (λ m out. heeds_first (to_move o m (length out)) s opens out
         (rw (is, le-leb plan.owners o (ltb-false o plan.owners (sym e ∙ f))))) (λ p H q m k. no_owner_lem p o m k (rw q at (ltb-false o plan.owners (sym e ∙ f))))
 
@@ -337,12 +317,14 @@ module _ (s : Slices) (o : ℕ) {h : Header} (opens : h ≡ open_of (lent_of s) 
       unfolding routes_of
       route_at_lem p = table_at most_owners (route_of p) empty_route o (let a = low in omega arith)
 
-      module _ {jobs : List ℕ} {x : Stopped} (S : Stops (take routes_length s.routes) o x jobs) where
-        pub begins_broken : x ≡ Broken → Begins s o jobs (Unready BrokenRoute)
-        begins_broken y = refuses BrokenRoute (heeded low BrokenRoute refl) (λ p H q m k.
-            broken p o m k (owner_of p q) (rw (route_at_lem p) at ((rw y at S.is) (routes_of p) H.desk.routes)))
+      module _ {jobs : List ℕ} {x : Result ℕ Refusal} (S : Stops (take routes_length s.routes) o x jobs) where
+        pub begins_broken : {r : Refusal} → x ≡ Err r → Begins s o jobs (Err r)
+        begins_broken {r} y =
+            let (a, f) : (r ≡ BrokenRoute) × ((m : Model) → RoutesHold (take routes_length s.routes) m → 0 < (route_at m o).invalid) = rw y at S.is in
+            rw a (refuses BrokenRoute (heeded low BrokenRoute refl) (λ p H q m k.
+            broken p o m k (owner_of p q) (rw (route_at_lem p) at (f (routes_of p) H.desk.routes))))
 
-        pub begins_of : {k : ℕ} → x ≡ Of k → Begins s o jobs (Ready plan k)
+        pub begins_of : {k : ℕ} → x ≡ Ok k → Begins s o jobs (Ok (plan, k))
         begins_of {k} y =
             let (a, f) : (k ≤ most_entries) × ((m : Model) → RoutesHold (take routes_length s.routes) m → Whole m o k jobs) = rw y at S.is in
             record {
@@ -356,13 +338,12 @@ module _ (s : Slices) (o : ℕ) {h : Header} (opens : h ≡ open_of (lent_of s) 
                     record {
                       owner = owner_of p q;
                       whole = rw (← route_at_lem p) z.whole;
-                      long = rw (← route_at_lem p) z.long;
                       are = rw (← route_at_lem p) z.are;
                     };
               };
             }
           where
-            opened_long : h ≡ Headed plan → is_short (lent_of s) ≡ false
+            opened_long : h ≡ Ok plan → is_short (lent_of s) ≡ false
             opened_long i = look (test (is_short (lent_of s)))
               where
                 look : Test (is_short (lent_of s)) → is_short (lent_of s) ≡ false
@@ -377,51 +358,57 @@ module _ (s : Slices) (o : ℕ) {h : Header} (opens : h ≡ open_of (lent_of s) 
 
 -- ── the call ──
 
-says_refused : (out : List ℕ) (r : Moved) (k : Refusal) → says_moved out r ≡ refused k → r ≡ Refused k
-says_refused out (Is n q f) k e = absurd (let y : ◌≡◌ {A = ℕ} 0 1 = cc in omega arith)
-says_refused out (Refused r) k e = cc
+says_refused : (out : List ℕ) (r : Result Moved Refusal) (k : Refusal) → says_moved out r ≡ refused k → r ≡ Err k
+says_refused out (Ok m) k e = absurd (let y : ◌≡◌ {A = ℕ} 0 1 = cc in omega arith)
+says_refused out (Err r) k e = cc
 
-pub ready : {s : Slices} {o : ℕ} {jobs : List ℕ} {x : Begun} {plan : Counts} {k : ℕ} → Begins s o jobs x → x ≡ Ready plan k → Opens s o jobs plan k
+pub ready : {s : Slices} {o : ℕ} {jobs : List ℕ} {x : Result (Counts × ℕ) Refusal} {plan : Counts} {k : ℕ} → Begins s o jobs x → x ≡ Ok (plan, k) → Opens s o jobs plan k
 ready B q = rw q at B.is
 
-module _ (s : Slices) (o : ℕ) (m : Move) (out : List ℕ) {jobs : List ℕ} {x : Begun} (B : Begins s o jobs x) where
-  pub moved_refused : {r : Refusal} → x ≡ Unready r → Promise (to_move o m (length out)) s s out out (refused r)
+module _ (s : Slices) (o : ℕ) (m : Move) (out : List ℕ) {jobs : List ℕ} {x : Result (Counts × ℕ) Refusal} (B : Begins s o jobs x) where
+  pub moved_refused : {r : Refusal} → x ≡ Err r → Promise (to_move o m (length out)) s s out out (refused r)
   moved_refused q = (rw q at B.is) m out
 
-  module _ {plan : Counts} {k : ℕ} (q : x ≡ Ready plan k) where
-    module _ {b : Bool} {new : List ℕ} (P : Places m k jobs b new) where
+  module _ {plan : Counts} {k : ℕ} (q : x ≡ Ok (plan, k)) where
+    module _ {b : Bool} {old new : List ℕ} (e : old ≡ take k jobs) (P : Places m old b new) where
+      route : (p : Plan) → Held s p → Route p o old
+      route p H = rw e ((ready B q).is p H)
+
       pub moved_positions : b ≡ false → Promise (to_move o m (length out)) s s out out (refused BadPositions)
       moved_positions f = opened_kept (to_move o m (length out)) s {h = open_of (lent_of s) s.base} refl s out out (refused BadPositions)
           (ready B q).opens (λ g p H c.
-          let R = (ready B q).is p H in
+          let R = route p H in
           decided_refused (some p) (to_move o m (length out)) s out BadPositions
           (refusal_long (some p) (to_move o m (length out)) s g
-          ∙ positions p o m (length out) R.owner R.whole (rw R.long at (sym P.good ∙ f))))
+          ∙ positions p o m (length out) R.owner R.whole (rw (route_long R) at (sym P.good ∙ f))))
           (heeded s o refl (ready B q).opens (ready B q).owned BadPositions refl m out)
 
-      module _ (t : b ≡ true) {r : Moved} {out' : List ℕ}
-          (F : Finishes s.base (take edges_length s.edges) s.times plan jobs new k out r out') where
-        good : good_positions k m ≡ true
+      module _ (t : b ≡ true) (even : length new ≡ length old) {r : Result Moved Refusal} {out' : List ℕ}
+          (F : Finishes s plan old new out r out') where
+        good : good_positions (length old) m ≡ true
         good = sym P.good ∙ t
 
-        decided : is_short (lent_of s) ≡ false → (p : Plan) → Held s p → plan ≡ counts_of p.base → (length out < k) ⊎ (k ≤ length out)
+        decided : is_short (lent_of s) ≡ false → (p : Plan) → Held s p → plan ≡ counts_of p.base
+            → (length out < length new) ⊎ (length new ≤ length out)
             → Decided (some p) (to_move o m (length out)) s s out out' (says_moved out' r)
         unfolding accepted
         decided g p H c (inl h) =
-            let R = (ready B q).is p H in
+            let R = route p H in
+            let l = route_long R in
             let (a, z) = F.few h in
             rw (a, z)
             (decided_refused (some p) (to_move o m (length out)) s out ShortAnswer
             (refusal_long (some p) (to_move o m (length out)) s g
-            ∙ short p o m (length out) R.owner R.whole (rw R.long at good) (rw R.long at h)))
+            ∙ short p o m (length out) R.owner R.whole (rw l at good) (omega arith)))
         decided g p H c (inr h) =
-            let R = (ready B q).is p H in
+            let R = route p H in
+            let l = route_long R in
             let W : Words s.base (take edges_length s.edges) s.times plan p =
             record { base = H.base; edges = H.desk.edges; sound = H.desk.sound; times = H.times; counts = c } in
             let A = (F.enough h).is p W o m R good (P.is t) in
             let d = decided_read p (to_move o m (length out)) s H
             (refusal_long (some p) (to_move o m (length out)) s g
-            ∙ fine p o m (length out) R.owner R.whole (rw R.long at good) (rw R.long at h)) out
+            ∙ fine p o m (length out) R.owner R.whole (rw l at good) (omega arith)) out
             (rerouted (new_route p o m) (is_moved_quick p o m) (is_moved_cyclic p o m)) refl refl in
             record {
               says = A.says ∙ d.says;
@@ -431,7 +418,7 @@ module _ (s : Slices) (o : ℕ) (m : Move) (out : List ℕ) {jobs : List ℕ} {x
             }
 
         -- of any contents: 10 or 12
-        heeding : (length out < k) ⊎ (k ≤ length out) → Heeds (to_move o m (length out)) s s out out' (says_moved out' r)
+        heeding : (length out < length new) ⊎ (length new ≤ length out) → Heeds (to_move o m (length out)) s s out out' (says_moved out' r)
         heeding (inl h) =
             let (a, z) = F.few h in
             rw (a, z) (heeded s o refl (ready B q).opens (ready B q).owned ShortAnswer refl m out)
@@ -442,4 +429,4 @@ module _ (s : Slices) (o : ℕ) (m : Move) (out : List ℕ) {jobs : List ℕ} {x
 
         pub moved_finished : Promise (to_move o m (length out)) s s out out' (says_moved out' r)
         moved_finished = opened_kept (to_move o m (length out)) s {h = open_of (lent_of s) s.base} refl s out out' (says_moved out' r)
-            (ready B q).opens (λ g p H c. decided g p H c (lt_or_le (length out) k)) (heeding (lt_or_le (length out) k))
+            (ready B q).opens (λ g p H c. decided g p H c (lt_or_le (length out) (length new))) (heeding (lt_or_le (length out) (length new)))

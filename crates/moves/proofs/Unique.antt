@@ -13,22 +13,23 @@ use Rattle.stores.proofs.Tabled.{places_length}
 use Rattle.refresh.proofs.Unique.{unique}
 use Rattle.moves.specs.Calls.{says_moved}
 use Rattle.moves.specs.declared.moved.Moved.{Moved}
-use Rattle.moves.specs.declared.moved.Moved.TheVariants.{Is, Refused}
+use Rattle.rules.specs.declared.Refusal.{Refusal}
+use Rattle.std.specs.Prelude.{Result, Ok, Err}
 
 -- no two answers mean the same
-pub moved_same : (out : List ℕ) (x y : Moved) → says_moved out x ≡ says_moved out y → x ≡ y
-moved_same out (Is k q f) (Is l r g) e =
-    let z : places k out ≡ places l out = cc in
-    let a : k ≡ l = sym (places_length k out) ∙ ap length z ∙ places_length l out in
-    let b : q ≡ r = cc in
-    let c : f ≡ g = cc in
+pub moved_same : (out : List ℕ) (x y : Result Moved Refusal) → says_moved out x ≡ says_moved out y → x ≡ y
+moved_same out (Ok m) (Ok w) e =
+    let z : places m.length out ≡ places w.length out = cc in
+    let a : m.length ≡ w.length = sym (places_length m.length out) ∙ ap length z ∙ places_length w.length out in
+    let b : m.quick ≡ w.quick = cc in
+    let c : m.full ≡ w.full = cc in
     rw (a, b, c)
-moved_same out (Is k q f) (Refused r) e = let z : ◌≡◌ {A = ℕ} 0 1 = cc in absurd (omega arith)
-moved_same out (Refused r) (Is k q f) e = let z : ◌≡◌ {A = ℕ} 0 1 = cc in absurd (omega arith)
-moved_same out (Refused r) (Refused q) e = cc
+moved_same out (Ok m) (Err r) e = let z : ◌≡◌ {A = ℕ} 0 1 = cc in absurd (omega arith)
+moved_same out (Err r) (Ok m) e = let z : ◌≡◌ {A = ℕ} 0 1 = cc in absurd (omega arith)
+moved_same out (Err r) (Err q) e = cc
 
 -- of each of the four moves
-pub move_unique : {o k : ℕ} {m : Move} {s s₁ s₂ : Slices} {out o₁ o₂ : List ℕ} (t : State) → StandsFor s t → (x y : Moved)
+pub move_unique : {o k : ℕ} {m : Move} {s s₁ s₂ : Slices} {out o₁ o₂ : List ℕ} (t : State) → StandsFor s t → (x y : Result Moved Refusal)
     → Promise (to_move o m k) s s₁ out o₁ (says_moved o₁ x) → Promise (to_move o m k) s s₂ out o₂ (says_moved o₂ y)
     → (x ≡ y) × (s₁ ≡ s₂) × (o₁ ≡ o₂)
 move_unique {o₁ = o₁} t h x y p q =

@@ -1,5 +1,5 @@
 -- What the four moves promise, and the functions that they are made of. Assumes nothing.
-use Rattle.std.specs.Prelude.{ℕ, ◌≤◌, ◌<◌, ◌≡◌, Bool, true, List, length, take}
+use Rattle.std.specs.Prelude.{ℕ, ◌≤◌, ◌<◌, ◌≡◌, Bool, true, List, length, take, Result, Ok, Err}
 use Rattle.std.proofs.lemmas.List.Edits.{sets}
 use Rattle.rules.specs.declared.Plan.{Plan as Counts}
 use Rattle.rules.specs.declared.Refusal.{Refusal}
@@ -8,26 +8,21 @@ use Rattle.rules.specs.Calls.{Reply, refused, rerouted, to_move}
 use Rattle.rules.specs.Moves.{Move, list_change, permutation, sublist_change, sublist_swap, good_positions, is_moved_cyclic, is_moved_quick, moved, new_route}
 use Rattle.rules.specs.Routes.{Plan, jobs_of, route_of}
 use Rattle.rules.specs.Sound.{Sound}
-use Rattle.rules.specs.Sizes.{base_length, most_entries, times_length}
+use Rattle.rules.specs.Sizes.{base_length, edges_length, most_entries, times_length}
 use Rattle.edges.specs.Edges.{Holds}
 use Rattle.routes.specs.Desks.{edges_of}
 use Rattle.times.specs.Words.{time_words}
 use Rattle.stores.specs.Headers.{open_of, counts_of}
 use Rattle.stores.specs.Promise.{Held, Promise, Slices, lent_of}
-use Rattle.stores.specs.Says.{places}
+use Rattle.stores.specs.Says.{places, says}
 use Rattle.stores.specs.Words.{base_words}
-use Rattle.stores.specs.declared.header.Header.TheVariants.{Is as Headed}
 use Rattle.moves.specs.declared.moved.Asked.{Asked}
 use Rattle.moves.specs.declared.moved.Asked.TheVariants.{One, Range, Swap, Order}
-use Rattle.moves.specs.declared.moved.Begun.{Begun}
-use Rattle.moves.specs.declared.moved.Begun.TheVariants.{Is as Ready, Refused as Unready}
 use Rattle.moves.specs.declared.moved.Moved.{Moved}
-use Rattle.moves.specs.declared.moved.Moved.TheVariants.{Is, Refused}
 
 -- a move: a new route of so many jobs, the quick verdict, the full verdict
-abbrev pub says_moved : List ℕ → Moved → Reply
-says_moved out (Is k q f) = rerouted (places k out) q f
-says_moved out (Refused r) = refused r
+abbrev pub says_moved : List ℕ → Result Moved Refusal → Reply
+says_moved out = says (λ (m : Moved). rerouted (places m.length out) m.quick m.full)
 
 -- the move that is asked for
 abbrev pub move_of : Asked → List ℕ → Move
@@ -38,38 +33,37 @@ move_of (Order a b) l = permutation a b l
 
 -- ── the owner's route ──
 
--- k jobs, those of the owner's route, which is not broken
-pub record Route (p : Plan) (o k : ℕ) (jobs : List ℕ) : Type 0 where
+-- the jobs are those of the owner's route, which is not broken
+pub record Route (p : Plan) (o : ℕ) (jobs : List ℕ) : Type 0 where
   pub owner : o < p.base.owners
   pub whole : (route_of p o).invalid ≡ 0
-  pub long : k ≡ length (route_of p o).stops
-  pub are : take k jobs ≡ jobs_of (route_of p o)
+  pub are : jobs ≡ jobs_of (route_of p o)
 
--- of every plan that the store stands for
-pub record Opens (s : Slices) (o : ℕ) (jobs : List ℕ) (plan : Counts) (k : ℕ) : Type 0 where
-  pub opens : open_of (lent_of s) s.base ≡ Headed plan
+-- of every plan that the store stands for: k jobs, at the front of the words
+pub record Opens (s : Slices) (o : ℕ) (words : List ℕ) (plan : Counts) (k : ℕ) : Type 0 where
+  pub opens : open_of (lent_of s) s.base ≡ Ok plan
   pub owned : o < plan.owners
   pub few : k ≤ most_entries
-  pub is : (p : Plan) → Held s p → Route p o k jobs
+  pub is : (p : Plan) → Held s p → Route p o (take k words)
 
 -- or the call is refused, whatever the move
-abbrev pub BeginsBy : Slices → ℕ → List ℕ → Begun → Type 0
-BeginsBy s o jobs (Ready plan k) = Opens s o jobs plan k
-BeginsBy s o jobs (Unready r) = (m : Move) (out : List ℕ) → Promise (to_move o m (length out)) s s out out (refused r)
+abbrev pub BeginsBy : Slices → ℕ → List ℕ → Result (Counts × ℕ) Refusal → Type 0
+BeginsBy s o words (Ok b) = Opens s o words b.0 b.1
+BeginsBy s o words (Err r) = (m : Move) (out : List ℕ) → Promise (to_move o m (length out)) s s out out (refused r)
 
-pub record Begins (s : Slices) (o : ℕ) (jobs : List ℕ) (r : Begun) : Type 0 where
-  pub is : BeginsBy s o jobs r
+pub record Begins (s : Slices) (o : ℕ) (words : List ℕ) (r : Result (Counts × ℕ) Refusal) : Type 0 where
+  pub is : BeginsBy s o words r
 
 -- ── the new route ──
 
-pub record Places (m : Move) (k : ℕ) (old : List ℕ) (r : Bool) (new : List ℕ) : Type 0 where
-  pub good : r ≡ good_positions k m
-  pub is : r ≡ true → take k new ≡ moved m (take k old)
+pub record Places (m : Move) (old : List ℕ) (r : Bool) (new : List ℕ) : Type 0 where
+  pub good : r ≡ good_positions (length old) m
+  pub is : r ≡ true → new ≡ moved m old
 
 -- ── the verdicts ──
 
 -- what the rules answer, and the new route in the answer buffer
-pub record Answers (p : Plan) (o : ℕ) (m : Move) (out : List ℕ) (r : Moved) (out' : List ℕ) : Type 0 where
+pub record Answers (p : Plan) (o : ℕ) (m : Move) (out : List ℕ) (r : Result Moved Refusal) (out' : List ℕ) : Type 0 where
   pub says : says_moved out' r ≡ rerouted (new_route p o m) (is_moved_quick p o m) (is_moved_cyclic p o m)
   pub answers : out' ≡ sets out 0 (new_route p o m)
 
@@ -81,13 +75,13 @@ pub record Words (b e t : List ℕ) (plan : Counts) (p : Plan) : Type 0 where
   pub times : take times_length t ≡ time_words p
   pub counts : plan ≡ counts_of p.base
 
-pub record Judges (base e times : List ℕ) (plan : Counts) (old new : List ℕ) (k : ℕ) (out : List ℕ) (r : Moved) (out' : List ℕ) : Type 0 where
+pub record Judges (s : Slices) (plan : Counts) (old new out : List ℕ) (r : Result Moved Refusal) (out' : List ℕ) : Type 0 where
   -- of any words: nothing is refused under another number
-  pub twelve : (j : Refusal) → r ≡ Refused j → j ≡ BadStore
-  pub is : (p : Plan) → Words base e times plan p → (o : ℕ) (m : Move) → Route p o k old → good_positions k m ≡ true
-      → take k new ≡ moved m (take k old) → Answers p o m out r out'
+  pub twelve : (j : Refusal) → r ≡ Err j → j ≡ BadStore
+  pub is : (p : Plan) → Words s.base (take edges_length s.edges) s.times plan p → (o : ℕ) (m : Move) → Route p o old → good_positions (length old) m ≡ true
+      → new ≡ moved m old → Answers p o m out r out'
 
 -- "the answer buffer has fewer places than the answer needs", or the verdicts
-pub record Finishes (base e times : List ℕ) (plan : Counts) (old new : List ℕ) (k : ℕ) (out : List ℕ) (r : Moved) (out' : List ℕ) : Type 0 where
-  pub few : length out < k → (r ≡ Refused ShortAnswer) × (out' ≡ out)
-  pub enough : k ≤ length out → Judges base e times plan old new k out r out'
+pub record Finishes (s : Slices) (plan : Counts) (old new out : List ℕ) (r : Result Moved Refusal) (out' : List ℕ) : Type 0 where
+  pub few : length out < length new → (r ≡ Err ShortAnswer) × (out' ≡ out)
+  pub enough : length new ≤ length out → Judges s plan old new out r out'

@@ -1,13 +1,12 @@
--- Where a move's positions lie, in a route of n jobs. Assumes nothing.
+-- Where a move's positions lie, in a route and in as many words for the new one. Assumes nothing.
 use Rattle.std.specs.Prelude.{ℕ, ◌+◌, ◌≤◌, ◌≡◌, true, List, length}
 use Rattle.rules.specs.Lists.{all_below}
 
--- the places a up to b, in the first n words of `old`, and as many of `new`
-pub record Piece (n a b : ℕ) (old new : List ℕ) : Type 0 where
+-- the places a up to b of `old`, and as many words of `new`
+pub record Piece (a b : ℕ) (old new : List ℕ) : Type 0 where
   pub order : a ≤ b
-  pub within : b ≤ n
-  pub old_room : n ≤ length old
-  pub new_room : n ≤ length new
+  pub within : b ≤ length old
+  pub room : length new ≡ length old
 
 -- a list of places, counted from a on, each within the list's length
 pub record Order (a : ℕ) (list old new : List ℕ) : Type 0 where
@@ -16,10 +15,9 @@ pub record Order (a : ℕ) (list old new : List ℕ) : Type 0 where
   pub new_room : a + length list ≤ length new
 
 -- the places a up to b and, behind them, c up to d
-pub record Ranges (n a b c d : ℕ) (old new : List ℕ) : Type 0 where
+pub record Ranges (a b c d : ℕ) (old new : List ℕ) : Type 0 where
   pub left : a ≤ b
   pub apart : b ≤ c
   pub right : c ≤ d
-  pub within : d ≤ n
-  pub old_room : n ≤ length old
-  pub new_room : n ≤ length new
+  pub within : d ≤ length old
+  pub room : length new ≡ length old

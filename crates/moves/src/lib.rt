@@ -1,7 +1,7 @@
 // Layer 4, all of it: the four moves with both checks, and the critical blocks, which stand in a crate beneath. The store is only read.
 #![tactic(auto)]
 
-pub use blocks::blocks::{Blocked, blocks};
+pub use blocks::blocks::blocks;
 
 pub mod moved;
 mod places;

@@ -5,65 +5,60 @@ ghost use Rattle.rules.specs.Sizes.{most_entries};
 ghost use Rattle.moves.specs.Calls.{Places};
 
 use crate::reroute;
-use stores::header::broad;
 
 // Each place_.. says whether the positions are good, and if they are writes the new route.
-pub fn place_range(
-    old: &[u16],
-    len: usize,
-    start: u32,
-    end: u32,
-    dest: u32,
-    new: &mut [u16],
-) -> bool
-    requires { (length old.now ≡ most_entries) × (length new.old ≡ most_entries) × (len ≤ most_entries) }
-    ensures { Places (sublist_change start end dest) len old.now result new.new }
+#[tactic(auto, using(crate::proofs::Positions::change_order, crate::proofs::Positions::change_far, crate::proofs::Positions::change_dest, crate::proofs::Positions::change_made))]
+pub fn place_range(old: &[u16], start: u32, end: u32, dest: u32, new: &mut [u16]) -> bool
+    requires { length new.old ≡ length old.now }
+    ensures { Places (sublist_change start end dest) old.now result new.new }
 {
-    let a = broad(start);
-    let b = broad(end);
-    let d = broad(dest);
+    let a = start as usize;
+    let b = end as usize;
+    let d = dest as usize;
     if b < a {
         return false;
     }
-    if len < b {
+    if old.len() < b {
         return false;
     }
-    if len - (b - a) < d {
+    if old.len() - (b - a) < d {
         return false;
     }
-    reroute::sublist_change(old, len, a, b, d, new);
+    reroute::sublist_change(old, a, b, d, new);
     true
 }
 
-pub fn place_one(old: &[u16], len: usize, source: u32, dest: u32, new: &mut [u16]) -> bool
-    requires { (length old.now ≡ most_entries) × (length new.old ≡ most_entries) × (len ≤ most_entries) }
-    ensures { Places (list_change source dest) len old.now result new.new }
+#[tactic(auto, using(crate::proofs::Positions::one_far, crate::proofs::Positions::one_dest))]
+pub fn place_one(old: &[u16], source: u32, dest: u32, new: &mut [u16]) -> bool
+    requires { length new.old ≡ length old.now }
+    ensures { Places (list_change source dest) old.now result new.new }
 {
-    let s = broad(source);
-    let d = broad(dest);
-    if len <= s {
+    let s = source as usize;
+    let d = dest as usize;
+    if old.len() <= s {
         return false;
     }
-    if len < d {
+    if old.len() < d {
         return false;
     }
     if s < d {
-        reroute::sublist_change(old, len, s, s + 1, d - 1, new);
+        reroute::sublist_change(old, s, s + 1, d - 1, new);
         return true;
     }
-    reroute::sublist_change(old, len, s, s + 1, d, new);
+    reroute::sublist_change(old, s, s + 1, d, new);
     true
 }
 
 // The range from a on is the left one.
-fn place_ranges(old: &[u16], len: usize, a: u32, b: u32, c: u32, d: u32, new: &mut [u16]) -> bool
-    requires { (length old.now ≡ most_entries) × (length new.old ≡ most_entries) × (len ≤ most_entries) × (a ≤ c) }
-    ensures { Places (sublist_swap a b c d) len old.now result new.new }
+#[tactic(auto, using(crate::proofs::Positions::swap_first, crate::proofs::Positions::swap_second, crate::proofs::Positions::swap_overlap, crate::proofs::Positions::swap_far, crate::proofs::Positions::swap_made))]
+fn place_ranges(old: &[u16], a: u32, b: u32, c: u32, d: u32, new: &mut [u16]) -> bool
+    requires { (length new.old ≡ length old.now) × (a ≤ c) }
+    ensures { Places (sublist_swap a b c d) old.now result new.new }
 {
-    let f = broad(a);
-    let g = broad(b);
-    let h = broad(c);
-    let k = broad(d);
+    let f = a as usize;
+    let g = b as usize;
+    let h = c as usize;
+    let k = d as usize;
     if g < f {
         return false;
     }
@@ -73,45 +68,39 @@ fn place_ranges(old: &[u16], len: usize, a: u32, b: u32, c: u32, d: u32, new: &m
     if h < g {
         return false;
     }
-    if len < k {
+    if old.len() < k {
         return false;
     }
-    reroute::sublist_swap(old, len, f, g, h, k, new);
+    reroute::sublist_swap(old, f, g, h, k, new);
     true
 }
 
-pub fn place_swap(old: &[u16], len: usize, a: u32, b: u32, c: u32, d: u32, new: &mut [u16]) -> bool
-    requires { (length old.now ≡ most_entries) × (length new.old ≡ most_entries) × (len ≤ most_entries) }
-    ensures { Places (sublist_swap a b c d) len old.now result new.new }
+pub fn place_swap(old: &[u16], a: u32, b: u32, c: u32, d: u32, new: &mut [u16]) -> bool
+    requires { length new.old ≡ length old.now }
+    ensures { Places (sublist_swap a b c d) old.now result new.new }
 {
     if a <= c {
-        return place_ranges(old, len, a, b, c, d, new);
+        return place_ranges(old, a, b, c, d, new);
     }
-    place_ranges(old, len, c, d, a, b, new)
+    place_ranges(old, c, d, a, b, new)
 }
 
-pub fn place_order(
-    old: &[u16],
-    len: usize,
-    start: u32,
-    end: u32,
-    list: &[u32],
-    new: &mut [u16],
-) -> bool
-    requires { (length old.now ≡ most_entries) × (length new.old ≡ most_entries) × (len ≤ most_entries) }
-    ensures { Places (permuted start end list.now) len old.now result new.new }
+#[tactic(auto, using(crate::proofs::Positions::order_list, crate::proofs::Positions::order_order, crate::proofs::Positions::order_far, crate::proofs::Positions::order_not, crate::proofs::Positions::order_made))]
+pub fn place_order(old: &[u16], start: u32, end: u32, list: &[u32], new: &mut [u16]) -> bool
+    requires { (length new.old ≡ length old.now) × (length old.now ≤ most_entries) }
+    ensures { Places (permuted start end list.now) old.now result new.new }
 {
-    let a = broad(start);
-    let b = broad(end);
+    let a = start as usize;
+    let b = end as usize;
     if b < a {
         return false;
     }
-    if len < b {
+    if old.len() < b {
         return false;
     }
     if !reroute::is_permutation(list, b - a) {
         return false;
     }
-    reroute::permutation(old, len, a, b, list, new);
+    reroute::permutation(old, a, b, list, new);
     true
 }

@@ -1,56 +1,41 @@
 // An owner's route in force, as its jobs.
-ghost use Rattle.std.specs.Prelude.{◌≡◌, ◌≤◌, length, take};
+ghost use Rattle.std.specs.Prelude.{◌≡◌, ◌≤◌, length};
 ghost use Rattle.std.proofs.lemmas.List.Edits.{sets};
 ghost use Rattle.rules.specs.Lists.{all_below};
 ghost use Rattle.rules.specs.Sizes.{most_entries, routes_length};
 ghost use Rattle.moves.specs.Stopping.{Stops, halves};
 
 use routes::rows::{is_broken, stops};
-use rules::Owner;
-use words::wide;
-
-#[derive(Clone, Copy)]
-pub enum Route {
-    Of(usize),
-    Broken,
-}
+use rules::{Owner, Refusal};
 
 // The jobs of the stops.
+#[tactic(auto, using(crate::proofs::Halved::halving_none, crate::proofs::Halved::halving_next, crate::proofs::Halved::halving_done))]
 fn jobs_of(row: &[u16], out: &mut [u16])
     requires { length row.now ≤ length out.old }
     ensures { out.new ≡ sets out.old 0 (halves row.now) }
 {
-    let mut i: usize = 0;
-    while i < row.len() {
-        out[i] = row[i] / 2;
-        i += 1;
+    for (i, stop) in row.iter().enumerate() {
+        out[i] = *stop / 2;
     }
 }
 
-// The owner's route, if it was put with no invalid entry.
-pub fn route_of(routes: &[u16], owner: Owner, out: &mut [u16]) -> Route
+// The owner's route, if it was put with no invalid entry: its jobs come to the front of `out`. How many they are.
+#[tactic(auto, using(crate::proofs::Halved::stops_broken))]
+pub fn route_of(routes: &[u16], owner: Owner, out: &mut [u16]) -> Result<usize, Refusal>
     requires { (length routes.now ≡ routes_length) × (length out.old ≡ most_entries) }
     ensures { Stops routes.now owner.0 result out.new }
 {
     if is_broken(routes, owner) {
-        return Route::Broken;
+        return Err(Refusal::BrokenRoute);
     }
     let row = stops(routes, owner);
     jobs_of(row, out);
-    Route::Of(row.len())
+    Ok(row.len())
 }
 
-// The first k are jobs below n.
-pub fn are_jobs(jobs: &[u16], k: usize, n: usize) -> bool
-    requires { k ≤ length jobs.now }
-    ensures { result ≡ all_below n (take k jobs.now) }
+// All are jobs below n.
+pub fn are_jobs(jobs: &[u16], n: usize) -> bool
+    ensures { result ≡ all_below n jobs.now }
 {
-    let mut i: usize = 0;
-    while i < k {
-        if n <= wide(jobs[i]) {
-            return false;
-        }
-        i += 1;
-    }
-    true
+    jobs.iter().all(|job| usize::from(*job) < n)
 }

@@ -1,55 +1,30 @@
-use Rattle.moves.proofs.Promised.{moved_finished, moved_positions, moved_refused, ready}
-use Rattle.stores.proofs.Openings.{open_is}
-use lib.ListN.{length-take}
-use mathlib.Core.Path.{refl, ◌∙◌}
+use mathlib.Core.Path.{refl}
 use native.Mathlib.Omega.{arith}
+use lib.ListN.{length-take, length-replicate}
+use Rattle.std.proofs.lemmas.Result.{err_from_is_err_and}
+use Rattle.stores.proofs.Openings.{open_is}
+use Rattle.moves.proofs.Promised.{moved_finished, moved_positions, moved_refused, ready}
 use Rattle.moves.proofs.moved.answer.Goals as goal
 
--- `answer`. Assumes nothing.
+-- `answer`: by what the move asks first, then by its positions. Assumes nothing.
 
-pub place-requires : goal.place-requires
-place-requires c =
-    let the_begin = c.begin in
-    (the_begin.auto.old ∙ refl, refl, (ready the_begin.ensures c.in-Is.is).few)
+pub returns-in_err-plan : goal.returns-in_err-plan
+returns-in_err-plan c =
+    let p = err_from_is_err_and c.from_residual.result c.from_residual.ensures.1 in
+    rw (p.1, p.2) (moved_refused _ _ _ _ c.in_err-plan.ensures refl)
 
 pub returns-then-not-place : goal.returns-then-not-place
-returns-then-not-place c =
-    let the_begin = c.begin in
-    let the_place = c.place in
-    let the_if1 = c.if-not-place in
-    moved_positions _ _ _ _ the_begin.ensures c.in-Is.is the_place.ensures the_if1.true
-
-pub slice_bounds-finish-end : goal.slice_bounds-finish-end
-slice_bounds-finish-end c =
-    let the_begin = c.begin in
-    let o = open_is _ _ _ (ready the_begin.ensures c.in-Is.is).opens in let l = o.long.edges in simp length-take (omega arith)
+returns-then-not-place c = moved_positions _ _ _ _ c.in_ok-plan.ensures refl refl c.place.ensures c.if-not-place.true
 
 pub finish-requires : goal.finish-requires
 finish-requires c =
-    let the_begin = c.begin in
-    let the_place = c.place in
-    let r = ready the_begin.ensures c.in-Is.is in
-    let o = open_is _ _ _ r.opens in
-    let l = o.long.edges in (
-      o.long.base,
-      simp length-take (omega arith),
-      o.long.times,
-      o.jobs,
-      o.fixed,
-      the_begin.auto.old ∙ refl,
-      the_place.auto.new ∙ refl,
-      r.few,
+    let r = ready c.in_ok-plan.ensures refl in (
+      open_is _ _ _ r.opens,
+      simp length-take (omega (arith, r.few)),
+      rw c.place.auto.new (simp length-take (omega (arith, r.few))),
     )
 
-pub returns-in-Refused : goal.returns-in-Refused
-returns-in-Refused c =
-    let the_begin = c.begin in
-    moved_refused _ _ _ _ the_begin.ensures c.in-Refused.is
-
-pub returns-else-not-place : goal.returns-else-not-place
-returns-else-not-place c =
-    let the_begin = c.begin in
-    let the_place = c.place in
-    let the_if1 = c.if-not-place in
-    let the_finish = c.finish in
-    moved_finished _ _ _ _ the_begin.ensures c.in-Is.is the_place.ensures the_if1.false the_finish.ensures
+pub returns : goal.returns
+returns c =
+    moved_finished _ _ _ _ c.in_ok-plan.ensures refl refl c.place.ensures c.if-not-place.false
+    (let b = c.begin.auto.old in rw c.place.auto.new (simp (length-take, length-replicate) (omega arith))) c.finish.ensures

@@ -1,50 +1,26 @@
+use mathlib.Core.Path.{refl}
+use Rattle.std.proofs.lemmas.Result.{err_from_is_err_and}
 use Rattle.moves.proofs.Promised.{begins_broken, begins_closed, begins_nobody, begins_of}
-use Rattle.stores.proofs.Openings.{open_is}
-use lib.ListN.{length-take}
-use mathlib.Core.Path.{sym, ◌∙◌}
-use native.Mathlib.Omega.{arith}
 use Rattle.moves.proofs.moved.begin.Goals as goal
 
 -- `begin`: by what the header says, then by the owner, then by its route. Assumes nothing.
 
+pub returns-in_err-plan : goal.returns-in_err-plan
+returns-in_err-plan c =
+    let p = err_from_is_err_and c.from_residual.result c.from_residual.ensures.1 in
+    rw (p.1, p.2) (begins_closed _ _ c.in_err-plan.ensures.says refl)
+
 pub returns-then-not-has_owner : goal.returns-then-not-has_owner
-returns-then-not-has_owner c =
-    let the_opened = c.opened in
-    let the_has_owner = c.has_owner in
-    let the_if1 = c.if-not-has_owner in
-    begins_nobody _ _ the_opened.ensures c.in-Is.is the_has_owner.ensures the_if1.true
+returns-then-not-has_owner c = begins_nobody _ _ c.in_ok-plan.ensures.says refl c.has_owner.ensures c.if-not-has_owner.true
 
-pub slice_bounds-route_of-end : goal.slice_bounds-route_of-end
-slice_bounds-route_of-end c =
-    let the_opened = c.opened in
-    let l = (open_is _ _ _ (sym the_opened.ensures ∙ c.in-Is.is)).long.routes in
-    simp length-take (omega arith)
+pub returns-in_err-len : goal.returns-in_err-len
+returns-in_err-len c =
+    let p = err_from_is_err_and c.from_residual-in_err-len.result c.from_residual-in_err-len.ensures.1 in
+    rw (p.1, p.2)
+    (begins_broken _ _ c.in_ok-plan.ensures.says refl c.has_owner.ensures c.if-not-has_owner.false c.in_ok-plan.ensures.opens.owners
+    c.in_err-len.ensures refl)
 
-pub route_of-requires : goal.route_of-requires
-route_of-requires c =
-    let the_opened = c.opened in
-    let l = (open_is _ _ _ (sym the_opened.ensures ∙ c.in-Is.is)).long.routes in
-    (simp length-take (omega arith), c.requires)
-
-pub returns-in-Refused : goal.returns-in-Refused
-returns-in-Refused c =
-    let the_opened = c.opened in
-    begins_closed _ _ the_opened.ensures c.in-Refused.is
-
-pub returns-in-Broken : goal.returns-in-Broken
-returns-in-Broken c =
-    let the_has_owner = c.has_owner in
-    let the_opened = c.opened in
-    let the_route_of = c.route_of in
-    let o = open_is _ _ _ (sym the_opened.ensures ∙ c.in-Is.is) in
-    begins_broken _ _ the_opened.ensures c.in-Is.is the_has_owner.ensures c.if-not-has_owner.false o.owners
-    the_route_of.ensures c.in-Broken.is
-
-pub returns-in-Of : goal.returns-in-Of
-returns-in-Of c =
-    let the_has_owner = c.has_owner in
-    let the_opened = c.opened in
-    let the_route_of = c.route_of in
-    let o = open_is _ _ _ (sym the_opened.ensures ∙ c.in-Is.is) in
-    begins_of _ _ the_opened.ensures c.in-Is.is the_has_owner.ensures c.if-not-has_owner.false o.owners
-    the_route_of.ensures c.in-Of.is
+pub returns : goal.returns
+returns c =
+    begins_of _ _ c.in_ok-plan.ensures.says refl c.has_owner.ensures c.if-not-has_owner.false c.in_ok-plan.ensures.opens.owners
+    c.in_ok-len.ensures refl

@@ -1,60 +1,27 @@
-use mathlib.Core.Path.{ap}
-use mathlib.Core.Bool.{not}
-use borrow.Author.Rules.{rules}
-use Rattle.moves.proofs.Promised.{count_few, front_few, judging, parts_even, tested}
+use mathlib.Core.Path.{sym, ◌∙◌}
+use lib.Seq.{length-take-le}
+use Rattle.moves.proofs.Promised.{judge_new, judge_old, judge_shown, parts_even}
 use Rattle.moves.proofs.moved.judge.Goals as goal
 
 -- `judge`: both routes are jobs, so the check may be asked; its verdicts are the rules'. Assumes nothing.
 
-pub broad-n-requires : goal.broad-n-requires
-broad-n-requires c = search judging
-
-pub broad-k-requires : goal.broad-k-requires
-broad-k-requires c = search judging
-
-pub are_jobs-requires : goal.are_jobs-requires
-are_jobs-requires c = search judging
-
 pub returns-then-not-are_jobs : goal.returns-then-not-are_jobs
-returns-then-not-are_jobs c = search judging
-
-pub are_jobs-requires-2 : goal.are_jobs-requires-2
-are_jobs-requires-2 c = search judging
+returns-then-not-are_jobs c = judge_old c.are_jobs.ensures c.if-not-are_jobs.true
 
 pub returns-then-not-are_jobs-2 : goal.returns-then-not-are_jobs-2
-returns-then-not-are_jobs-2 c = search judging
+returns-then-not-are_jobs-2 c = judge_new c.are_jobs-2.ensures c.if-not-are_jobs-2.true
 
-pub froms-requires : goal.froms-requires
-froms-requires c = search judging
-
-pub tos-requires : goal.tos-requires
-tos-requires c = search judging
-
-pub slice_bounds-check-end : goal.slice_bounds-check-end
-slice_bounds-check-end c = search judging
-
-pub slice_bounds-check-end-2 : goal.slice_bounds-check-end-2
-slice_bounds-check-end-2 c = search judging
-
-pub is_cyclic-requires : goal.is_cyclic-requires
-is_cyclic-requires c = search judging
-
-pub check-c-requires : goal.check-c-requires
-check-c-requires c = (
-  search (rules, parts_even),
-  search rules,
-  search (rules, count_few),
-  search (rules, front_few),
-  search (rules, front_few),
-  tested c.are_jobs.ensures (ap not c.if-not-are_jobs.false),
-  tested c.are_jobs-2.ensures (ap not c.if-not-are_jobs-2.false),
-)
-
-pub widen-requires : goal.widen-requires
-widen-requires c = search judging
-
-pub shape_of-out : goal.shape_of-out
-shape_of-out c = search judging
+pub check-verdicts-requires : goal.check-verdicts-requires
+check-verdicts-requires c =
+    let o = c.requires.0 in (
+      parts_even _ c.froms.ensures c.tos.ensures o.long.base o.fixed,
+      length-take-le 13314 c.args.store.edges.now o.long.edges,
+      o.jobs,
+      c.requires.1,
+      c.requires.2,
+      sym c.are_jobs.ensures ∙ c.if-not-are_jobs.false,
+      sym c.are_jobs-2.ensures ∙ c.if-not-are_jobs-2.false,
+    )
 
 pub returns : goal.returns
-returns c = search judging
+returns c = judge_shown c.check-verdicts.ensures c.widen.ensures c.froms.ensures c.tos.ensures c.is_cyclic.ensures c.requires.3

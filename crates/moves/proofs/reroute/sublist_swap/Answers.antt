@@ -5,5 +5,4 @@ use Rattle.moves.proofs.reroute.sublist_swap.Goals as goal
 
 pub returns : goal.returns
 returns c =
-    swap_laid c.requires c.copy.ensures c.copy-2.ensures c.copy-3.ensures
-    c.copy-4.ensures c.copy-5.ensures
+    swap_laid c.requires c.copy_to.ensures c.copy_to-2.ensures c.copy_to-3.ensures c.copy_to-4.ensures c.copy_to-5.ensures
