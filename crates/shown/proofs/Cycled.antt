@@ -29,11 +29,8 @@ module _ (x d b : ℕ) (e : d ≡ x) where
       is_min : nearer x b ≡ min x b
       is_min = rw (ne_eqb x 0 (λ q. f (e ∙ q)), ne_eqb b 0 g)
 
-      pub nearer_new : d < b → d ≡ nearer x b
-      nearer_new h = omega (arith, is_min)
-
-      pub nearer_old : b ≤ d → b ≡ nearer x b
-      nearer_old h = omega (arith, is_min)
+      pub nearer_min : (r : ℕ) → r ≡ min d b → r ≡ nearer x b
+      nearer_min r h = omega (arith, is_min)
 
 module _ (x d y w low : ℕ) (e : d ≡ x) where
   pub lower_other : (d ≡ y → ⊥) → low ≡ lower_of x y w low
@@ -188,4 +185,4 @@ module _ {e : List ℕ} {n v k : ℕ} {o₀ o o' : List ℕ} (K : Closes e v n o
       here m H b = rw none_found at (K.is m H b)
 
 -- what these functions are proved by
-pub ruleset cycling = (rules, nearer_none, nearer_first, nearer_new, nearer_old, lower_other, lower_new, sweeping_none, sweeping_next, sweeping_done, tracing_none, tracing_next, tracing_done, closes_far, closes_is, circling_none, circling_some, circling_next, circling_done)
+pub ruleset cycling = (rules, nearer_none, nearer_first, nearer_min, lower_other, lower_new, sweeping_none, sweeping_next, sweeping_done, tracing_none, tracing_next, tracing_done, closes_far, closes_is, circling_none, circling_some, circling_next, circling_done)

@@ -29,10 +29,7 @@ fn nearer_of(dist: &[u16], w: u16, best: u16) -> u16
     if best == 0 {
         return d;
     }
-    if d < best {
-        return d;
-    }
-    best
+    d.min(best)
 }
 
 // The least distance of a row's jobs, 0 if none leads back.
@@ -81,7 +78,7 @@ fn trace(e: &[u16], v: usize, n: usize, dist: &[u16], d: usize, out: &mut [u16])
     }
 }
 
-// A shortest cycle through v, if there is one: how many places it takes.
+// A shortest cycle through v, if there is one: how many places it takes. Without one that is 0, a length like the others, so no Option.
 fn cycle_at(e: &[u16], v: usize, n: usize, out: &mut [u16]) -> usize
     requires { (length e.now ≡ edges_length) × (n ≤ most_jobs) × (v < n) × (length out.old ≡ most_jobs) }
     ensures { Closes e.now v n out.old result out.new }

@@ -8,6 +8,9 @@ ghost use Rattle.shown.specs.Distances.{Meets, Measures};
 use edges::lists::predecessors;
 use rules::Plan;
 
+// Queue, distances and count are three parameters and no struct: the distances are the caller's slice, read afterwards, and the queue ends with
+// the call.
+
 // Job w, if it is not met yet, is at distance d and joins the queue. A number that is no job is passed over.
 pub fn meet(queue: &mut [u16], dist: &mut [u16], w: u16, d: u16, n: usize, tail: usize) -> usize
     requires { (length queue.old ≡ most_jobs) × (length dist.old ≡ most_jobs) × (n ≤ most_jobs) × (tail ≤ most_jobs) }

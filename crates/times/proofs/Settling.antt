@@ -1,7 +1,6 @@
 -- The times that are set: stopped, gone on, all anew, mended; and the report of a put. Assumes nothing.
 use Rattle.std.proofs.Common.{◌≡◌, ℕ, ◌+◌, ◌-◌, ◌<◌, ◌≤◌, max, Bool, true, false, not, ◌⊎◌, List, [], ◌∷◌, ◌++◌, map, length, get_or, take, drop, set, replicate, sym, refl, ap, ◌∙◌, inl, inr, append-nil, arith, length-append, length-drop, drop_of_length-le, length-take-le, take_all, take_at, drop_at, w32, Fits, rules, le-ltb}
 use lib.ListN.{length-replicate, get_or-replicate, get_or-eq_default}
-use lib.Seq.{sets, sets-eq}
 use Rattle.std.proofs.lemmas.List.{nil_from_length}
 use Rattle.rules.specs.declared.Report.{Report}
 use Rattle.rules.specs.declared.Report.TheVariants.{Skipped, Full, CycleFound, Incremental}
