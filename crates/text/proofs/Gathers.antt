@@ -19,7 +19,7 @@ pub fields_stop : (ns : List ℕ) → Stops is_digit (fields_of ns)
 fields_stop [] = tt
 fields_stop (x ∷ ns) = refl
 
-fields_snoc : (ns : List ℕ) (x : ℕ) → fields_of (ns ++ (x ∷ [])) ≡ fields_of ns ++ (32 ∷ digits_of x)
+pub fields_snoc : (ns : List ℕ) (x : ℕ) → fields_of (ns ++ (x ∷ [])) ≡ fields_of ns ++ (32 ∷ digits_of x)
 fields_snoc [] x = ap (λ (l : List ℕ). 32 ∷ l) (append-nil (digits_of x))
 fields_snoc (y ∷ ns) x =
     ap (λ (l : List ℕ). 32 ∷ l)

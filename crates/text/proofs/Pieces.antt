@@ -3,15 +3,15 @@ use Prim.Native.Nat.{ℕ, suc, ◌+◌, ◌-◌, ◌*◌, ◌^◌, ◌≤◌, �
 use native.Mathlib.Nat.{add-zero, mul-suc, mul-zero}
 use native.Mathlib.Omega.{arith}
 use native.Mathlib.Numerals.{add-one}
-use mathlib.Core.Path.{◌≡◌, refl, sym, ap, ◌∙◌}
-use mathlib.Core.List.{List, [], ◌∷◌, ◌++◌}
+use mathlib.Core.Path.{◌≡◌, refl, sym, ap, subst, ◌∙◌}
+use mathlib.Core.List.{List, [], ◌∷◌, ◌++◌, map-id}
 use borrow.Author.Rules.{rules}
 use lib.IntN.{ℤ, pos, negsuc}
 use lib.ListN.{length, set, length-append, get_or, take, drop, drop_of_length-le}
 use borrow.Rule.Slice.PartMut.{put_mid}
 use Rattle.std.proofs.lemmas.List.{take_all}
 use Rattle.std.proofs.lemmas.Slice.{put_mid-paste}
-use lib.Seq.{sets, sets-eq, length-sets, drop-cons}
+use lib.Seq.{take-suc, sets, sets-eq, length-sets, drop-cons}
 use lib.Signed.{mag}
 use mir.Syntax.{w64}
 use mir.Val.{SFits, to_z, of_z}
@@ -21,8 +21,11 @@ use Rattle.rules.specs.declared.Score.{Score}
 use Rattle.rules.specs.Refusals.{number_of}
 use Rattle.text.specs.Grammar.{digits_of, fields_of}
 use Rattle.text.specs.Writes.{Wrote, Fills, signed_of, most_field, most_signed}
-use Rattle.text.specs.Answers.{no_word, no_line, line_of, line_length, score_line, score_length}
+use Rattle.std.specs.List.{AllZip}
+use Rattle.std.proofs.lemmas.Slice.Zip.{AllZip-map}
+use Rattle.text.specs.Answers.{Told, no_word, no_line, line_of, line_length, score_line, score_length}
 use Rattle.text.proofs.Decimals.{digits_twenty}
+use Rattle.text.proofs.Gathers.{fields_snoc}
 
 sets_append : (out a b : List ℕ) (at : ℕ) → sets (sets out at a) (at + length a) b ≡ sets out at (a ++ b)
 sets_append out [] b at = rw add-zero
@@ -81,10 +84,19 @@ pub fills_end : {out : List ℕ} {at : ℕ} {a : List ℕ} {m p : ℕ} {o₁ : L
 fills_end A L = fills_behind A (fills_of L (omega arith))
 
 -- a word, the fields of numbers, and LF
-pub fills_line : (ns : List ℕ) {out : List ℕ} {at : ℕ} {word : List ℕ} {p : ℕ} {o₁ : List ℕ} {q : ℕ} {o₂ : List ℕ} {r : ℕ} {o₃ : List ℕ} → Wrote out at word p o₁
-    → Fills o₁ p (fields_of ns) (most_field * length ns) q o₂ → Wrote o₂ q (10 ∷ []) r o₃
-    → Fills out at (line_of word ns) (line_length (length word) (length ns)) r o₃
-fills_line ns W A L = fills_within (fills_word W (fills_end A L)) (omega arith)
+fills_line : (k : ℕ) (ns : List ℕ) {out : List ℕ} {at : ℕ} {word : List ℕ} {p : ℕ} {o₁ : List ℕ} {q : ℕ} {o₂ : List ℕ} {r : ℕ} {o₃ : List ℕ} → Wrote out at word p o₁
+    → Fills o₁ p (fields_of ns) (most_field * k) q o₂ → Wrote o₂ q (10 ∷ []) r o₃ → Fills out at (line_of word ns) (line_length (length word) k) r o₃
+fills_line k ns W A L = fills_within (fills_word W (fills_end A L)) (omega arith)
+
+-- of any width
+pub told_line : {A : Type 0} (R : A → ℕ → Type 0) (list : List A) {out : List ℕ} {at : ℕ} {word : List ℕ} {p : ℕ} {o₁ : List ℕ} {q : ℕ} {o₂ : List ℕ} {r : ℕ}
+    {o₃ : List ℕ} → Wrote out at word p o₁ → Told R list (λ ns. Fills o₁ p (fields_of ns) (most_field * length list) q o₂) → Wrote o₂ q (10 ∷ []) r o₃
+    → Told R list (λ ns. Fills out at (line_of word ns) (line_length (length word) (length list)) r o₃)
+told_line R list W (ns, Z, F) L = (ns, Z, fills_line (length list) ns W F L)
+
+-- what numbers convert to is they
+pub told_is : (l : List ℕ) (P : List ℕ → Type 0) → Told (λ x y. y ≡ x) l P → P l
+told_is l P (ns, Z, H) = subst P (AllZip-map (λ x. x) l ns Z ∙ map-id l) H
 
 -- a space, and digits
 pub fills_number : (x : ℕ) {out : List ℕ} {at p : ℕ} {o₁ : List ℕ} {r : ℕ} {o₂ : List ℕ} → Wrote out at (32 ∷ []) p o₁ → Wrote o₁ p (digits_of x) r o₂ → x < 2 ^ 64
@@ -115,7 +127,7 @@ pub fills_no : (k : ℕ) (q : Refusal) {out : List ℕ} {at m p : ℕ} {o : List
     → Fills out at (no_line q) m p o
 fills_no k q F e = rw e at F
 
-pub ruleset pieces = (rules, fills_no, fills_line, fills_number, fills_signed, fills_score)
+pub ruleset pieces = (rules, fills_no, told_is, fills_number, fills_signed, fills_score)
 
 -- the rest, written from place p on, leaves the whole at its place
 pub record Turning (whole out₀ : List ℕ) (at : ℕ) (rest out : List ℕ) (p : ℕ) : Type 0 where
@@ -164,20 +176,47 @@ module _ {X : Type 0} {rows : List X → List ℕ} {m : ℕ} {list : List X} {ou
       let e : i ≡ length list = omega arith in
       record { wrote = turning_done (rw (drop_of_length-le list h, none) at R.turning); few = rw (← e) R.few }
 
--- ── fields ──
+-- ── fields of numbers of any width, of which i are written ──
 
-abbrev pub Fielding : List ℕ → List ℕ → ℕ → List ℕ → ℕ → ℕ → Type 0
-Fielding list out₀ at out p i = Rows fields_of most_field list out₀ at out p i
+zip_push : {A : Type 0} (R : A → ℕ → Type 0) (xs : List A) (ns : List ℕ) (x : A) (v : ℕ) → AllZip R xs ns → R x v → AllZip R (xs ++ (x ∷ [])) (ns ++ (v ∷ []))
+zip_push R [] [] x v Z h = (h, tt)
+zip_push R [] (n ∷ ns) x v Z h = absurd Z
+zip_push R (y ∷ xs) [] x v Z h = absurd Z
+zip_push R (y ∷ xs) (n ∷ ns) x v (k, Z) h = (k, zip_push R xs ns x v Z h)
 
-pub fields_start : (list out : List ℕ) (at : ℕ) → Fielding list out at out at 0
-fields_start = rows_start fields_of most_field
+pub record Fielding {A : Type 0} (R : A → ℕ → Type 0) (list : List A) (out₀ : List ℕ) (at : ℕ) (out : List ℕ) (p i : ℕ) : Type 0 where
+  pub numbers : List ℕ
+  pub told : AllZip R (take i list) numbers
+  pub to : i ≤ length list
+  pub long : length out ≡ length out₀
+  pub fills : Fills out₀ at (fields_of numbers) (most_field * i) p out
 
-pub fields_turn : (x : ℕ) {list out₀ : List ℕ} {at : ℕ} {out : List ℕ} {p i q : ℕ} {o : List ℕ} → Fills out p (32 ∷ digits_of x) most_field q o
-    → Fielding list out₀ at out p i → i < length list → x ≡ get_or list i 0 → Fielding list out₀ at o q (i + 1)
-fields_turn x P R h e = rows_turn R 0 (λ l. rw (← e)) h P
+module _ {A : Type 0} (R : A → ℕ → Type 0) (list : List A) where
+  pub fields_start : (out : List ℕ) (at : ℕ) → Fielding R list out at out at 0
+  fields_start out at = record {
+    numbers = [];
+    told = tt;
+    to = omega arith;
+    long = refl;
+    fills = record { wrote = wrote_none out at; few = omega (arith, mul-zero most_field) };
+  }
 
-pub fields_done : {list out₀ : List ℕ} {at : ℕ} {out : List ℕ} {p i : ℕ} → Fielding list out₀ at out p i → length list ≤ i
-    → Fills out₀ at (fields_of list) (most_field * length list) p out
-fields_done R h = rows_done R refl h
+  module _ {out₀ : List ℕ} {at : ℕ} {out : List ℕ} {p i : ℕ} (F : Fielding R list out₀ at out p i) where
+    pub fields_turn : {x : A} {v q : ℕ} {o : List ℕ} → i < length list → x ≡ get_or list i x → R x v → Fills out p (32 ∷ digits_of v) most_field q o
+        → Fielding R list out₀ at o q (i + 1)
+    fields_turn {x} {v} h e r W =
+        let t : take (i + 1) list ≡ take i list ++ (x ∷ []) =
+        rw add-one (take-suc list i x h ∙ ap {B = List A} (λ y. take i list ++ (y ∷ [])) (sym e)) in
+        record {
+          numbers = F.numbers ++ (v ∷ []);
+          told = rw t (zip_push R (take i list) F.numbers x v F.told r);
+          to = omega arith;
+          long = wrote_length W.wrote ∙ F.long;
+          fills = rw fields_snoc (fills_within (fills_behind F.fills W) (omega arith));
+        }
 
-pub ruleset fielding = (rules, fields_start, fields_turn, fields_done)
+    pub fields_done : length list ≤ i → Told R list (λ ns. Fills out₀ at (fields_of ns) (most_field * length list) p out)
+    fields_done h =
+        let k = F.to in
+        let e : i ≡ length list = omega arith in
+        (F.numbers, rw (take_all i list h) at F.told, rw e at F.fills)

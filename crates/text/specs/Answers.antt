@@ -1,5 +1,6 @@
 -- "Program lines": the lines that are printed. Assumes nothing.
 use Rattle.std.specs.Prelude.{ℕ, ◌+◌, ◌*◌, List, [], ◌∷◌, ◌++◌, length}
+use Rattle.std.specs.List.{AllZip}
 use Rattle.rules.specs.declared.Block.{Block}
 use Rattle.rules.specs.declared.Refusal.{Refusal}
 use Rattle.rules.specs.declared.Score.{Score}
@@ -38,6 +39,10 @@ abbrev pub block_word : List ℕ
 block_word = 98 ∷ 108 ∷ 111 ∷ 99 ∷ 107 ∷ []
 
 -- ── lines ──
+
+-- something holds of the numbers that a list's elements convert to
+abbrev pub Told : {A : Type 0} → (A → ℕ → Type 0) → List A → (List ℕ → Type 0) → Type 0
+Told converts l Holds = (ns : List ℕ) × AllZip converts l ns × Holds ns
 
 -- a word and numbers: "One space between fields, [..] LF at each end"
 abbrev pub line_of : List ℕ → List ℕ → List ℕ

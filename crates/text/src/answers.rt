@@ -2,7 +2,7 @@
 ghost use Rattle.std.specs.Prelude.{◌+◌, ◌*◌, ◌≤◌, ◌≡◌, length};
 ghost use Rattle.text.specs.Grammar.{fields_of};
 ghost use Rattle.text.specs.Writes.{Fills, most_field};
-ghost use Rattle.text.specs.Answers.{line_of, score_word, score_line, bad_line, no_line, ok_line, block_line, line_length, score_length};
+ghost use Rattle.text.specs.Answers.{Told, line_of, score_word, score_line, bad_line, no_line, ok_line, block_line, line_length, score_length};
 
 use crate::writes::{byte, bytes, number_field, signed_field};
 use rules::{Block, Refusal, Score};
@@ -10,25 +10,24 @@ use rules::{Block, Refusal, Score};
 // Room for every line of a word and a number or two.
 pub const SHORT: usize = 64;
 
-// The fields of the numbers.
-fn fields_of(out: &mut [u8], at: usize, list: &[u64]) -> usize
+// The fields of numbers of any width.
+fn fields_of<T: Copy + Into<u64>>(out: &mut [u8], at: usize, list: &[T]) -> usize
     requires { at + most_field * length list.now ≤ length out.old }
-    ensures { Fills out.old at (fields_of list.now) (most_field * length list.now) result out.new }
+    ensures { Told T.converts list.now
+        (λ ns. Fills out.old at (fields_of ns) (most_field * length list.now) result out.new) }
 {
     let mut p = at;
-    let mut i: usize = 0;
-    while i < list.len() {
-        p = number_field(out, p, list[i]);
-        i += 1;
+    for x in list {
+        p = number_field(out, p, (*x).into());
     }
     p
 }
 
 // A word and numbers.
-pub fn line(out: &mut [u8], at: usize, word: &[u8], list: &[u64]) -> usize
+pub fn line<T: Copy + Into<u64>>(out: &mut [u8], at: usize, word: &[u8], list: &[T]) -> usize
     requires { at + line_length (length word.now) (length list.now) ≤ length out.old }
-    ensures { Fills out.old at (line_of word.now list.now)
-        (line_length (length word.now) (length list.now)) result out.new }
+    ensures { Told T.converts list.now
+        (λ ns. Fills out.old at (line_of word.now ns) (line_length (length word.now) (length list.now)) result out.new) }
 {
     let p = bytes(out, at, word);
     let q = fields_of(out, p, list);
@@ -48,8 +47,7 @@ pub fn no(out: &mut [u8], at: usize, r: Refusal) -> usize
     requires { at + line_length 2 1 ≤ length out.old }
     ensures { Fills out.old at (no_line r) (line_length 2 1) result out.new }
 {
-    let k = r.number() as u64;
-    line(out, at, b"no", &[k])
+    line(out, at, b"no", &[r.number()])
 }
 
 // `block` and its owner, first and last place and route length.
@@ -57,45 +55,7 @@ pub fn block(out: &mut [u8], at: usize, b: Block) -> usize
     requires { at + line_length 5 4 ≤ length out.old }
     ensures { Fills out.old at (block_line b) (line_length 5 4) result out.new }
 {
-    let first = b.first as u64;
-    let last = b.last as u64;
-    line(
-        out,
-        at,
-        b"block",
-        &[b.owner as u64, first, last, b.length as u64],
-    )
-}
-
-fn wide(x: u32) -> u64
-    ensures { result ≡ x }
-{
-    x as u64
-}
-
-// The fields of the jobs.
-fn jobs_of(out: &mut [u8], at: usize, list: &[u32]) -> usize
-    requires { at + most_field * length list.now ≤ length out.old }
-    ensures { Fills out.old at (fields_of list.now) (most_field * length list.now) result out.new }
-{
-    let mut p = at;
-    let mut i: usize = 0;
-    while i < list.len() {
-        p = number_field(out, p, wide(list[i]));
-        i += 1;
-    }
-    p
-}
-
-// A word and jobs.
-pub fn jobs(out: &mut [u8], at: usize, word: &[u8], list: &[u32]) -> usize
-    requires { at + line_length (length word.now) (length list.now) ≤ length out.old }
-    ensures { Fills out.old at (line_of word.now list.now)
-        (line_length (length word.now) (length list.now)) result out.new }
-{
-    let p = bytes(out, at, word);
-    let q = jobs_of(out, p, list);
-    byte(out, q, b'\n')
+    line(out, at, b"block", &[b.owner, b.first, b.last, b.length])
 }
 
 // A word and a score's parts.

@@ -1,31 +1,9 @@
-use Rattle.text.proofs.Pieces.{fielding}
+use native.Mathlib.Omega.{arith}
+use Rattle.text.proofs.Pieces.{fields_turn}
 use Rattle.text.proofs.answers.fields_of.Goals as goal
 
--- `fields_of`: one field less to write at each turn. Assumes nothing.
+-- `fields_of`: one more field at each turn. Assumes nothing.
 
-pub loop-i-init : goal.loop-i-init
-loop-i-init c = search fielding
-
-pub offset_bounds-list-i : goal.offset_bounds-list-i
-offset_bounds-list-i c = search fielding
-
-pub bounds-list-i : goal.bounds-list-i
-bounds-list-i c = search fielding
-
-pub number_field-p-requires : goal.number_field-p-requires
-number_field-p-requires c = search fielding
-
-pub overflow_add-i : goal.overflow_add-i
-overflow_add-i c = search fielding
-
-pub loop-i-smaller : goal.loop-i-smaller
-loop-i-smaller c = search fielding
-
-pub loop-i-preserved : goal.loop-i-preserved
-loop-i-preserved c = search fielding
-
-pub shape_of-out : goal.shape_of-out
-shape_of-out c = search fielding
-
-pub returns : goal.returns
-returns c = search fielding
+pub loop-x-preserved : goal.loop-x-preserved
+loop-x-preserved g c =
+    fields_turn g.T.Into.converts c.args.list.now c.loop-x.invariant (omega arith) c.x-item.is c.into.ensures c.number_field-p.ensures
