@@ -9,8 +9,9 @@ fn width(x: u64) -> usize
 {
     let mut n: usize = 1;
     let mut y = x;
+    // A `while`: how many turns there are is what is counted.
     while 10 <= y {
-        y = y / 10;
+        y /= 10;
         n += 1;
     }
     n
@@ -22,12 +23,10 @@ pub(crate) fn write_number(out: &mut [u8], at: usize, x: u64) -> usize
     ensures { Wrote out.old at (digits_of x) result out.new }
 {
     let end = at + width(x);
-    let mut i = end;
     let mut y = x;
-    while at < i {
-        i -= 1;
+    for i in (at..end).rev() {
         out[i] = b'0' + (y % 10) as u8;
-        y = y / 10;
+        y /= 10;
     }
     end
 }
