@@ -17,7 +17,7 @@ use Rattle.text.specs.Writes.{Fills}
 use Rattle.text.specs.Answers.{line_of, blocks_word, block_line, block_lines, no_line, reply_text, line_length}
 use Rattle.text.proofs.Pieces.{wrote_behind, wrote_length, Rows, rows_start, rows_turn, rows_done}
 use Rattle.stores.specs.Promise.{Slices, call_of}
-use Rattle.blocks.specs.declared.blocks.Blocked.TheVariants.{Are, Refused}
+use Rattle.std.specs.Prelude.{Result, Ok, Err}
 use Rattle.blocks.specs.declared.blocks.Found.{Found}
 use Rattle.blocks.specs.declared.blocks.Spot.{Spot}
 use Rattle.blocks.specs.Promise.{Leads, SearchPromise, NextPromise, answer_to, blocks_in}
@@ -74,8 +74,8 @@ module _ {os : List ℕ} {s : Slices} {f : Found} {out₀ : List ℕ} {at : ℕ}
 
 -- what is printed of what was answered is the reply's text
 abbrev Tells : Reply → Type 0
-Tells y = ((q : Refusal) → answer_to y ≡ Refused q → no_line q ≡ reply_text y)
-    × ((k : ℕ) → answer_to y ≡ Are k → line_of blocks_word (k ∷ []) ++ block_lines (blocks_in y) ≡ reply_text y)
+Tells y = ((q : Refusal) → answer_to y ≡ Err q → no_line q ≡ reply_text y)
+    × ((k : ℕ) → answer_to y ≡ Ok k → line_of blocks_word (k ∷ []) ++ block_lines (blocks_in y) ≡ reply_text y)
 
 tells : (t : State) (s : Slices) (os : List ℕ) (n : ℕ) → Tells (reply t (call_of (to_blocks os n) s))
 unfolding accepted
@@ -88,20 +88,19 @@ tells t s os n = replied t s (to_blocks os n) Tells no (λ h. by t)
     by none = no _
     by (some p) = (λ q e. let z : ◌≡◌ {A = ℕ} 0 1 = cc in absurd (omega arith), λ k e. let f : length (blocks p os) ≡ k = cc in rw f)
 
-module _ {os : List ℕ} {s : Slices} {f : Found} where
+module _ {os : List ℕ} {s : Slices} {out : List ℕ} (room : longest_answer ≤ length out) where
   -- a refusal
-  pub blocks_no : {out : List ℕ} {r : ℕ} {out' : List ℕ} {q : Refusal} → Fills out 0 (no_line q) (line_length 2 1) r out'
-      → SearchPromise os most_entries s f → f.answer ≡ Refused q → longest_answer ≤ length out
+  pub blocks_no : {r : ℕ} {out' : List ℕ} {q : Refusal} → Fills out 0 (no_line q) (line_length 2 1) r out' → SearchPromise os most_entries s (Err q)
       → Answers (call (to_blocks os most_entries)) s s out r out'
-  blocks_no {q = q} W P e room =
+  blocks_no {q = q} W P =
       printed (to_blocks os most_entries) (omega arith)
-      (λ t st. let D = P.decides t st in ((tells t s os most_entries).0 q (sym D.answer ∙ e), D.leaves)) W
+      (λ t st. let D = P.decides t st in ((tells t s os most_entries).0 q (sym D.answer), D.leaves)) W
 
   -- how many there are, and their lines
-  pub blocks_told : {out : List ℕ} {r : ℕ} {out' : List ℕ} {k p : ℕ} {o : List ℕ} → ListsBlocks os s f o p r out'
-      → Fills out 0 (line_of blocks_word (k ∷ [])) (line_length 6 1) p o → SearchPromise os most_entries s f → f.answer ≡ Are k
-      → longest_answer ≤ length out → Answers (call (to_blocks os most_entries)) s s out r out'
-  blocks_told {k = k} L A P e room =
+  pub blocks_told : {f : Found} {r : ℕ} {out' : List ℕ} {p : ℕ} {o : List ℕ} → ListsBlocks os s f o p r out'
+      → Fills out 0 (line_of blocks_word (f.count ∷ [])) (line_length 6 1) p o → SearchPromise os most_entries s (Ok f)
+      → Answers (call (to_blocks os most_entries)) s s out r out'
+  blocks_told {f = f} L A P =
       let a = A.few in
       let b = L.few in
       record {
@@ -109,7 +108,7 @@ module _ {os : List ℕ} {s : Slices} {f : Found} where
         decides = λ t st.
             let D = P.decides t st in
             let W = wrote_behind A.wrote (L.is _ (record { count = D.count; leads = D.leads })) in
-            record { text = rw (← (tells t s os most_entries).1 k (sym D.answer ∙ e)) W; leaves = D.leaves };
+            record { text = rw (← (tells t s os most_entries).1 f.count (sym D.answer)) W; leaves = D.leaves };
       }
 
 -- ── all owners ──
@@ -124,4 +123,4 @@ pub crit_told : (o : ℕ) {n : ℕ} (l : List ℕ) {s : Slices} {out : List ℕ}
     → Answers (call (to_blocks (up_to (min o most_owners)) most_entries)) s s out r out'
 crit_told o l A (e, f) = rw (f ∙ ap up_to e) at A
 
-pub ruleset blocking = (rules, listing_start, listing_turn, listing_done, blocks_no, blocks_told, owners_long, crit_told)
+pub ruleset blocking = (rules, listing_start, listing_turn, listing_done, owners_long, crit_told)

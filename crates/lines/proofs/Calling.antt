@@ -21,15 +21,11 @@ use Rattle.text.specs.Writes.{Wrote, Fills}
 use Rattle.text.specs.Answers.{reply_text, no_line, ok_line, line_length, score_length}
 use Rattle.text.specs.Grammar.{fits_of, fitted}
 use Rattle.text.proofs.Pieces.{fills_within}
-use Rattle.stores.specs.declared.score.Scored.{Scored}
-use Rattle.stores.specs.declared.score.Scored.TheVariants.{Is, Refused as Unloaded}
-use Rattle.stores.specs.declared.reset.Ended.{Ended}
-use Rattle.stores.specs.declared.reset.Ended.TheVariants.{Fine, Refused as Uncut}
+use Rattle.std.specs.Prelude.{Result, Ok, Err}
 use Rattle.stores.specs.Promise.{Slices, call_of, StandsFor, after, Promise, AnyPromise}
 use Rattle.stores.specs.Says.{says_scored, says_ended}
 use Rattle.refresh.specs.Loads.{loading}
-use Rattle.refresh.specs.declared.put.Changed.{Changed}
-use Rattle.refresh.specs.declared.put.Changed.TheVariants.{By, Refused as Unput}
+use Rattle.refresh.specs.declared.put.Change.{Change}
 use Rattle.refresh.specs.Changes.{says_changed}
 use Rattle.lines.specs.declared.steps.Typed.{Typed}
 use Rattle.lines.specs.Answers.{call, Answers, Request}
@@ -65,29 +61,29 @@ pub go_promised : {n o : ℕ} (p : Typed) (d f t : List ℕ) {s s' : Slices} {r 
     → o ≡ fitted p.owners → AnyPromise (to_load (loading_of (typing_of p d f t))) s s' r
 go_promised p d f t P e g = rw (e, g) at P
 
-module _ {x : Scored} {out : List ℕ} {p : ℕ} {out' : List ℕ} where
-  pub loaded_no : {q : Refusal} → Fills out 0 (no_line q) (line_length 2 1) p out' → x ≡ Unloaded q
+module _ {x : Result Score Refusal} {out : List ℕ} {p : ℕ} {out' : List ℕ} where
+  pub loaded_no : {q : Refusal} → Fills out 0 (no_line q) (line_length 2 1) p out' → x ≡ Err q
       → Fills out 0 (reply_text (says_scored x)) (score_length 2) p out'
   loaded_no F e = rw e (fills_within F (omega arith))
 
-  pub loaded_ok : {s : Score} → Fills out 0 (ok_line s) (score_length 2) p out' → x ≡ Is s → Fills out 0 (reply_text (says_scored x)) (score_length 2) p out'
+  pub loaded_ok : {s : Score} → Fills out 0 (ok_line s) (score_length 2) p out' → x ≡ Ok s → Fills out 0 (reply_text (says_scored x)) (score_length 2) p out'
   loaded_ok F e = rw e F
 
 -- ── `cut` ──
 
-module _ (ns : List ℕ) {o : ℕ} {s s' : Slices} {x : Ended} {out : List ℕ} {p : ℕ} {out' : List ℕ} where
-  pub cut_no : {r : Refusal} → Fills out 0 (no_line r) (line_length 2 1) p out' → Promise (to_retract o) s s' [] [] (says_ended x) → x ≡ Uncut r
+module _ (ns : List ℕ) {o : ℕ} {s s' : Slices} {x : Result (Unit {0}) Refusal} {out : List ℕ} {p : ℕ} {out' : List ℕ} where
+  pub cut_no : {r : Refusal} → Fills out 0 (no_line r) (line_length 2 1) p out' → Promise (to_retract o) s s' [] [] (says_ended x) → x ≡ Err r
       → o ≡ fitted (get_or ns 0 0) → score_length 2 ≤ length out → Answers (call (to_retract (fitted (get_or ns 0 0)))) s s' out p out'
   cut_no F P e q h = rw (← q) (answered (to_retract o) says_ended F P e (omega arith))
 
-  pub cut_ok : Fills out 0 (ok_line no_change) (score_length 2) p out' → Promise (to_retract o) s s' [] [] (says_ended x) → x ≡ Fine
+  pub cut_ok : Fills out 0 (ok_line no_change) (score_length 2) p out' → Promise (to_retract o) s s' [] [] (says_ended x) → x ≡ Ok tt
       → o ≡ fitted (get_or ns 0 0) → score_length 2 ≤ length out → Answers (call (to_retract (fitted (get_or ns 0 0)))) s s' out p out'
   cut_ok F P e q h = rw (← q) (answered (to_retract o) says_ended F P e h)
 
 -- ── `put` ──
 
 -- the numbers reach the library as it takes them
-module _ (ns a : List ℕ) {o : ℕ} {s s' : Slices} (x : Changed) (out : List ℕ) (p : ℕ) (out' : List ℕ)
+module _ (ns a : List ℕ) {o : ℕ} {s s' : Slices} (x : Result Change Refusal) (out : List ℕ) (p : ℕ) (out' : List ℕ)
     (P : Promise (to_put o (take (length ns - 1) a)) s s' [] [] (says_changed x)) (q : o ≡ fitted (get_or ns 0 0))
     (e : a ≡ sets (replicate most_numbers 0) 0 (map fitted (take (length ns - 1) (drop 1 ns))))
     (pre : (1 ≤ length ns) × (length ns ≤ most_numbers) × (score_length 2 ≤ length out)) where
@@ -96,11 +92,11 @@ module _ (ns a : List ℕ) {o : ℕ} {s s' : Slices} (x : Changed) (out : List �
       let l : length a ≡ most_numbers = rw (e, length-sets, length-replicate) in
       rw (q, map_front fitted ns a (replicate most_numbers 0) e (omega arith)) at P
 
-  pub put_no : {r : Refusal} → Fills out 0 (no_line r) (line_length 2 1) p out' → x ≡ Unput r
+  pub put_no : {r : Refusal} → Fills out 0 (no_line r) (line_length 2 1) p out' → x ≡ Err r
       → Answers (call (to_put (fitted (get_or ns 0 0)) (map fitted (drop 1 ns)))) s s' out p out'
   put_no F g = answered (to_put (fitted (get_or ns 0 0)) (map fitted (drop 1 ns))) says_changed F arrives g (omega arith)
 
-  pub put_ok : {c : Score} {r : Report} → Fills out 0 (ok_line c) (score_length 2) p out' → x ≡ By c r
+  pub put_ok : {c : Change} → Fills out 0 (ok_line c.score) (score_length 2) p out' → x ≡ Ok c
       → Answers (call (to_put (fitted (get_or ns 0 0)) (map fitted (drop 1 ns)))) s s' out p out'
   put_ok F g = answered (to_put (fitted (get_or ns 0 0)) (map fitted (drop 1 ns))) says_changed F arrives g (omega arith)
 

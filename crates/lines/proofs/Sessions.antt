@@ -28,7 +28,8 @@ use Rattle.routes.specs.Store.{encode as route_words}
 use Rattle.routes.specs.Desks.{edges_of, routes_of}
 use Rattle.routes.proofs.Wellformed.{has_words}
 use Rattle.times.specs.Words.{span_words, time_words}
-use Rattle.stores.specs.declared.score.Scored.{Scored}
+use Rattle.std.specs.Prelude.{Result}
+use Rattle.rules.specs.declared.Score.{Score}
 use Rattle.stores.specs.Words.{base_words}
 use Rattle.stores.specs.Promise.{Slices, lent_of, call_of, Stands, StandsFor, holding, unmarked, leaving, after, AnyPromise}
 use Rattle.stores.specs.Says.{says_scored}
@@ -236,7 +237,7 @@ line_owned {o} {q = q} k t A h = by (refusal t (asked k (ask_of q))) refl
 
 -- the lines come to a plan (`gather`), which is loaded into a store that is not loaded (`go`, and `loaded` prints the reply), and the lines behind
 -- `go` are answered turn after turn (`answer_line`)
-pub run_prints : {input rest out text : List ℕ} {t : Typing} {n : ℕ} {s s' : Slices} (x : Scored) → length input ≤ input_limit
+pub run_prints : {input rest out text : List ℕ} {t : Typing} {n : ℕ} {s s' : Slices} (x : Result Score Refusal) → length input ≤ input_limit
     → OpensAll input (opened t rest n) → get_or s.base 0 0 ≡ 0 → lent_of s ≡ whole → AnyPromise (to_load (loading_of t)) s s' (says_scored x)
     → Runs rest (fitted t.owners) 0 n s' out text → RunPrints input (reply_text (says_scored x) ++ text)
 run_prints {input} {rest} {out} {text} {t} {n} {s} {s'} x h O z k P R =

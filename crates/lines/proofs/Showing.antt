@@ -29,17 +29,14 @@ use Rattle.rules.proofs.Plans.{shown_line_up_lem, shown_cycle_lem, no_shown_line
 use Rattle.rules.proofs.Refused.{refused_stays, accepted_step}
 use Rattle.rules.proofs.History.{Passed, passed}
 use Rattle.text.specs.Writes.{Fills}
-use Rattle.text.specs.Answers.{line_of, starts_word, order_word, cycle_word, score_word, score_line, no_line, line_length, score_length}
-use Rattle.text.proofs.Pieces.{wrote_behind}
-use Rattle.stores.specs.declared.reported.Started.{Started}
-use Rattle.stores.specs.declared.reported.Started.TheVariants.{All, Refused as Unstarted}
-use Rattle.stores.specs.declared.score.Counted.{Counted}
-use Rattle.stores.specs.declared.score.Counted.TheVariants.{Is, Refused}
+use Rattle.text.specs.Answers.{Told, line_of, starts_word, order_word, cycle_word, score_word, score_line, no_line, line_length, score_length}
+use Rattle.text.proofs.Pieces.{wrote_behind, told_is}
+use Rattle.std.specs.Prelude.{Result, Ok, Err}
 use Rattle.stores.specs.Promise.{Slices, lent_of, call_of, StandsFor, answer_of, Promise, Reads}
 use Rattle.stores.specs.Says.{places, says_started, says_counted}
 use Rattle.stores.proofs.Tabled.{places_take, places_length}
 use Rattle.refresh.specs.declared.verdict.Judged.{Judged}
-use Rattle.refresh.specs.declared.verdict.Judged.TheVariants.{LineUp, Cycle, Refused as Unjudged}
+use Rattle.refresh.specs.declared.verdict.Judged.TheVariants.{LineUp, Cycle}
 use Rattle.refresh.specs.Shows.{says_verdict}
 use Rattle.lines.specs.Sizes.{long_line, longest_answer}
 use Rattle.lines.specs.Answers.{whole_show, Answers}
@@ -119,14 +116,14 @@ front k n l e h =
     places_take k l (omega arith) ∙ rw m
 
 -- what the calls answer, told by what stands in front of their buffers
-abbrev pub verdict_in : List ℕ → Judged → Reply
-verdict_in l (LineUp k) = lined_up (take (min k most_jobs) l)
-verdict_in l (Cycle k) = cycled (take (min k most_jobs) l)
-verdict_in l (Unjudged r) = refused r
+abbrev pub verdict_in : List ℕ → Result Judged Refusal → Reply
+verdict_in l (Ok (LineUp k)) = lined_up (take (min k most_jobs) l)
+verdict_in l (Ok (Cycle k)) = cycled (take (min k most_jobs) l)
+verdict_in l (Err r) = refused r
 
-abbrev pub starts_in : List ℕ → Started → Reply
-starts_in l (All k) = started (take (min k most_jobs) l)
-starts_in l (Unstarted r) = refused r
+abbrev pub starts_in : List ℕ → Result ℕ Refusal → Reply
+starts_in l (Ok k) = started (take (min k most_jobs) l)
+starts_in l (Err r) = refused r
 
 module _ {s : Slices} {out l : List ℕ} (room : length out ≡ most_jobs) where
   -- the reply of a call with room for so many jobs, and the buffer's length
@@ -137,22 +134,22 @@ module _ {s : Slices} {out l : List ℕ} (room : length out ≡ most_jobs) where
     long_of : length l ≡ most_jobs
     long_of = ap length (P.decides t f).answers ∙ length-sets out 0 (answer_of r) ∙ room
 
-  pub verdict_is : (r : Judged) → Promise (to_verdict (length out)) s s out l (says_verdict l r) → (t : State) → StandsFor s t
+  pub verdict_is : (r : Result Judged Refusal) → Promise (to_verdict (length out)) s s out l (says_verdict l r) → (t : State) → StandsFor s t
       → reply t (call_of (to_verdict most_jobs) s) ≡ verdict_in l r
-  verdict_is (LineUp k) P t f =
+  verdict_is (Ok (LineUp k)) P t f =
       let e = says_of to_verdict P t f in
       sym e ∙ ap lined_up (front k most_jobs l (long_of to_verdict P t f) (rw (← e) at (verdict_few t s most_jobs)))
-  verdict_is (Cycle k) P t f =
+  verdict_is (Ok (Cycle k)) P t f =
       let e = says_of to_verdict P t f in
       sym e ∙ ap cycled (front k most_jobs l (long_of to_verdict P t f) (rw (← e) at (verdict_few t s most_jobs)))
-  verdict_is (Unjudged q) P t f = sym (says_of to_verdict P t f)
+  verdict_is (Err q) P t f = sym (says_of to_verdict P t f)
 
-  pub starts_is : (r : Started) → Promise (to_starts (length out)) s s out l (says_started l r) → (t : State) → StandsFor s t
+  pub starts_is : (r : Result ℕ Refusal) → Promise (to_starts (length out)) s s out l (says_started l r) → (t : State) → StandsFor s t
       → reply t (call_of (to_starts most_jobs) s) ≡ starts_in l r
-  starts_is (All k) P t f =
+  starts_is (Ok k) P t f =
       let e = says_of to_starts P t f in
       sym e ∙ ap started (front k most_jobs l (long_of to_starts P t f) (rw (← e) at (starts_few t s most_jobs)))
-  starts_is (Unstarted q) P t f = sym (says_of to_starts P t f)
+  starts_is (Err q) P t f = sym (says_of to_starts P t f)
 
 -- of so many numbers
 first_few : (n k : ℕ) (l : List ℕ) → n ≡ min k most_jobs → length (take n l) ≤ most_jobs
@@ -175,73 +172,72 @@ module _ (n k at : ℕ) (l out : List ℕ) (e : n ≡ min k most_jobs) where
 
 -- ── the starts ──
 
-module _ {s : Slices} {out : List ℕ} {at p : ℕ} {out' before list : List ℕ} {r : Started} where
+module _ {s : Slices} {out : List ℕ} {at p : ℕ} {out' before list : List ℕ} (room : length before ≡ most_jobs) where
   pub starts_no : {q : Refusal} → Fills out at (no_line q) (line_length 2 1) p out'
-      → Promise (to_starts (length before)) s s before list (says_started list r) → r ≡ Unstarted q → length before ≡ most_jobs
-      → ShowsStarts s out at p out'
-  starts_no W P e room =
+      → Promise (to_starts (length before)) s s before list (says_started list (Err q)) → ShowsStarts s out at p out'
+  starts_no {q} W P =
       let i = W.few in
-      record { few = omega arith; is = λ t f. rw (starts_is room r P t f ∙ ap (starts_in list) e) W.wrote }
+      record { few = omega arith; is = λ t f. rw (starts_is room (Err q) P t f) W.wrote }
 
-  pub starts_all : (n k : ℕ) → Fills out at (line_of starts_word (take n list)) (line_length 6 (length (take n list))) p out'
-      → Promise (to_starts (length before)) s s before list (says_started list r) → r ≡ All k → n ≡ min k most_jobs → length before ≡ most_jobs
-      → ShowsStarts s out at p out'
-  starts_all n k W P e m room =
+  pub starts_all : (n k : ℕ) → Told (λ x y. y ≡ x) (take n list) (λ ns. Fills out at (line_of starts_word ns) (line_length 6 (length (take n list))) p out')
+      → Promise (to_starts (length before)) s s before list (says_started list (Ok k)) → n ≡ min k most_jobs → ShowsStarts s out at p out'
+  starts_all n k T P m =
+      let W = told_is (take n list) (λ ns. Fills out at (line_of starts_word ns) (line_length 6 (length (take n list))) p out') T in
       let i = W.few in
       let j = first_few n k list m in
-      record { few = omega arith; is = λ t f. rw (starts_is room r P t f ∙ ap (starts_in list) e, ← m) W.wrote }
+      record { few = omega arith; is = λ t f. rw (starts_is room (Ok k) P t f, ← m) W.wrote }
 
 -- ── the verdict ──
 
-module _ {s : Slices} {out : List ℕ} {at p : ℕ} {out' before list : List ℕ} {r : Judged} where
+module _ {s : Slices} {out : List ℕ} {at p : ℕ} {out' before list : List ℕ} (room : length before ≡ most_jobs) where
   pub verdict_no : {q : Refusal} → Fills out at (no_line q) (line_length 2 1) p out'
-      → Promise (to_verdict (length before)) s s before list (says_verdict list r) → r ≡ Unjudged q → length before ≡ most_jobs
-      → ShowsVerdict s out at p out'
-  verdict_no W P e room =
+      → Promise (to_verdict (length before)) s s before list (says_verdict list (Err q)) → ShowsVerdict s out at p out'
+  verdict_no {q} W P =
       let i = W.few in
-      record { few = omega arith; is = λ t f. rw (verdict_is room r P t f ∙ ap (verdict_in list) e) W.wrote }
+      record { few = omega arith; is = λ t f. rw (verdict_is room (Err q) P t f) W.wrote }
 
-  pub verdict_cycle : (n k : ℕ) → Fills out at (line_of cycle_word (take n list)) (line_length 5 (length (take n list))) p out'
-      → Promise (to_verdict (length before)) s s before list (says_verdict list r) → r ≡ Cycle k → n ≡ min k most_jobs → length before ≡ most_jobs
-      → ShowsVerdict s out at p out'
-  verdict_cycle n k W P e m room =
+  pub verdict_cycle : (n k : ℕ) {j : Judged}
+      → Told (λ x y. y ≡ x) (take n list) (λ ns. Fills out at (line_of cycle_word ns) (line_length 5 (length (take n list))) p out') → j ≡ Cycle k
+      → Promise (to_verdict (length before)) s s before list (says_verdict list (Ok j)) → n ≡ min k most_jobs → ShowsVerdict s out at p out'
+  verdict_cycle n k T e P m =
+      let W = told_is (take n list) (λ ns. Fills out at (line_of cycle_word ns) (line_length 5 (length (take n list))) p out') T in
       let i = W.few in
       let j = first_few n k list m in
-      record { few = omega arith; is = λ t f. rw (verdict_is room r P t f ∙ ap (verdict_in list) e, ← m) W.wrote }
+      record { few = omega arith; is = λ t f. rw (verdict_is room (Ok (Cycle k)) (rw e at P) t f, ← m) W.wrote }
 
   -- the line_up behind the starts
-  pub verdict_order : (n k : ℕ) {q : ℕ} {o : List ℕ} → Fills o q (line_of order_word (take n list)) (line_length 5 (length (take n list))) p out'
-      → ShowsStarts s out at q o → Promise (to_verdict (length before)) s s before list (says_verdict list r) → r ≡ LineUp k
-      → n ≡ min k most_jobs → length before ≡ most_jobs → ShowsVerdict s out at p out'
-  verdict_order n k W S P e m room =
+  pub verdict_order : (n k : ℕ) {j : Judged} {q : ℕ} {o : List ℕ}
+      → Told (λ x y. y ≡ x) (take n list) (λ ns. Fills o q (line_of order_word ns) (line_length 5 (length (take n list))) p out')
+      → ShowsStarts s out at q o → j ≡ LineUp k → Promise (to_verdict (length before)) s s before list (says_verdict list (Ok j))
+      → n ≡ min k most_jobs → ShowsVerdict s out at p out'
+  verdict_order n k {q = q} {o = o} T S e P m =
+      let W = told_is (take n list) (λ ns. Fills o q (line_of order_word ns) (line_length 5 (length (take n list))) p out') T in
       let i = W.few in
       let g = S.few in
       let j = first_few n k list m in
       record {
         few = omega arith;
-        is = λ t f. rw (verdict_is room r P t f ∙ ap (verdict_in list) e, ← m) (wrote_behind (S.is t f) W.wrote);
+        is = λ t f. rw (verdict_is room (Ok (LineUp k)) (rw e at P) t f, ← m) (wrote_behind (S.is t f) W.wrote);
       }
 
 -- ── all of it ──
 
-module _ {s : Slices} {out : List ℕ} {p : ℕ} {out' : List ℕ} {r : Counted} where
+module _ {s : Slices} {out : List ℕ} {p : ℕ} {out' : List ℕ} (h : longest_answer ≤ length out) where
   -- a refusal of the score stands alone
-  pub shows_no : {q : Refusal} → Fills out 0 (no_line q) (line_length 2 1) p out' → Reads to_score s (says_counted r) → r ≡ Refused q
-      → longest_answer ≤ length out → Answers whole_show s s out p out'
-  shows_no W P e h =
+  pub shows_no : {q : Refusal} → Fills out 0 (no_line q) (line_length 2 1) p out' → Reads to_score s (says_counted (Err q)) → Answers whole_show s s out p out'
+  shows_no W P =
       let i = W.few in
-      record { few = omega arith; decides = λ t f. let d = P.decides t f in record { text = rw (← d.says, e) W.wrote; leaves = d.leaves } }
+      record { few = omega arith; decides = λ t f. let d = P.decides t f in record { text = rw (← d.says) W.wrote; leaves = d.leaves } }
 
   -- the verdict behind the score
   pub shows_score : {c : Score} {k q : ℕ} {o : List ℕ} → ShowsVerdict s o q p out' → Fills out 0 (score_line score_word c) (score_length 5) q o
-      → Reads to_score s (says_counted r) → r ≡ Is c k → longest_answer ≤ length out → Answers whole_show s s out p out'
-  shows_score J W P e h =
+      → Reads to_score s (says_counted (Ok (c, k))) → Answers whole_show s s out p out'
+  shows_score J W P =
       let i = W.few in
       let j = J.few in
       record {
         few = omega arith;
-        decides = λ t f. let d = P.decides t f in
-            record { text = rw (← d.says, e) (wrote_behind W.wrote (J.is t f)); leaves = d.leaves };
+        decides = λ t f. let d = P.decides t f in record { text = rw (← d.says) (wrote_behind W.wrote (J.is t f)); leaves = d.leaves };
       }
 
-pub ruleset showing = (rules, first_long, starts_room, cycle_room, order_room, starts_no, starts_all, verdict_no, verdict_cycle, verdict_order, shows_no, shows_score)
+pub ruleset showing = (rules, first_long, starts_room, cycle_room, order_room)

@@ -12,9 +12,8 @@ ghost use Rattle.lines.specs.Parts.{Calls};
 use crate::critical::crit;
 use crate::shows::show;
 use crate::{NUMBERS, fitted_at};
-use refresh::put::Changed;
-use refresh::reset::Ended;
 use refresh::retract::retract;
+use refresh::store::Store;
 use rules::{Owner, Score};
 use text::answers::{no, ok};
 use text::fields::narrow;
@@ -51,8 +50,8 @@ fn put(
     narrow_all(&numbers[1..], &mut list);
     let owner = Owner(fitted_at(numbers, 0));
     match refresh::put::put(base, spans, edges, routes, times, owner, &list[..n]) {
-        Changed::Refused(r) => no(out, 0, r),
-        Changed::By(s, _) => ok(out, s),
+        Err(r) => no(out, 0, r),
+        Ok(change) => ok(out, change.score),
     }
 }
 
@@ -74,8 +73,8 @@ fn cut(
 {
     let owner = Owner(fitted_at(numbers, 0));
     match retract(base, spans, edges, routes, times, owner) {
-        Ended::Refused(r) => no(out, 0, r),
-        Ended::Fine => ok(out, Score { hard: 0, soft: 0 }),
+        Err(r) => no(out, 0, r),
+        Ok(()) => ok(out, Score { hard: 0, soft: 0 }),
     }
 }
 
@@ -99,17 +98,27 @@ pub(crate) fn call(
 {
     match word {
         Word::Put => Some(put(base, spans, edges, routes, times, numbers, out)),
-        Word::Cut => Some(cut(base, spans, &edges[..], routes, &times[..], numbers, out)),
-        Word::Show => Some(show(base, spans, &edges[..], &routes[..], &times[..], out)),
-        Word::Crit => Some(crit(
-            base,
-            spans,
-            &edges[..],
-            &routes[..],
-            &times[..],
-            owners,
-            out,
-        )),
+        Word::Cut => Some(cut(base, spans, edges, routes, times, numbers, out)),
+        Word::Show => {
+            let store = Store {
+                base,
+                spans,
+                edges,
+                routes,
+                times,
+            };
+            Some(show(store, out))
+        }
+        Word::Crit => {
+            let store = Store {
+                base,
+                spans,
+                edges,
+                routes,
+                times,
+            };
+            Some(crit(store, owners, out))
+        }
         _ => None,
     }
 }

@@ -9,8 +9,8 @@ ghost use Rattle.lines.specs.Steps.{typing_of, Within};
 ghost use Rattle.lines.specs.Serves.{loading_of};
 
 use crate::steps::Typed;
-use refresh::load::load;
-use refresh::score::Scored;
+use refresh::load::{Loading, load};
+use rules::{Refusal, Score};
 use text::answers::{no, ok};
 use text::fields::narrow;
 
@@ -24,38 +24,31 @@ pub fn go(
     durations: &[u64],
     from: &[u32],
     to: &[u32],
-) -> Scored
+) -> Result<Score, Refusal>
     requires { Within plan durations.now from.now to.now }
     ensures { AnyPromise (to_load (loading_of (typing_of plan durations.now from.now to.now)))
         (slices base.old spans.old edges.old routes.old times.old)
         (slices base.new spans.new edges.new routes.new times.new)
         (says_scored result) }
 {
-    let nobody = [0u32; 1];
-    let d = plan.durations;
-    let f = plan.fixed;
-    load(
-        base,
-        spans,
-        edges,
-        routes,
-        times,
-        narrow(plan.jobs),
-        narrow(plan.owners),
-        &durations[..d],
-        &nobody[..0],
-        &from[..f],
-        &to[..f],
-    )
+    let typed = Loading {
+        jobs: narrow(plan.jobs),
+        owners: narrow(plan.owners),
+        durations: &durations[..plan.durations],
+        expected: &[],
+        from: &from[..plan.fixed],
+        to: &to[..plan.fixed],
+    };
+    load(base, spans, edges, routes, times, typed)
 }
 
 // What `go` prints.
-pub fn loaded(answer: Scored, out: &mut [u8]) -> usize
+pub fn loaded(answer: Result<Score, Refusal>, out: &mut [u8]) -> usize
     requires { score_length 2 ≤ length out.old }
     ensures { Fills out.old 0 (reply_text (says_scored answer)) (score_length 2) result out.new }
 {
     match answer {
-        Scored::Refused(r) => no(out, 0, r),
-        Scored::Is(s) => ok(out, s),
+        Err(r) => no(out, 0, r),
+        Ok(s) => ok(out, s),
     }
 }

@@ -1,7 +1,6 @@
-use Rattle.stores.specs.Promise.{slices}
+use Rattle.stores.specs.Held.{held}
 use Rattle.lines.proofs.Blocking.{Listing}
 use Rattle.lines.proofs.critical.block_lines.Given as goal
 
 abbrev pub invariant-loop : goal.invariant-loop
-invariant-loop l =
-    Listing l.owners (slices l.base l.spans l.edges l.routes l.times) l.found l.initial.out l.at l.out l.spot l.p l.counter
+invariant-loop l = Listing l.owners (held l.store) l.found l.initial.out l.at l.out l.spot l.p l.counter
