@@ -14,10 +14,10 @@ use Rattle.rules.specs.Blocks.{blocks, no_block}
 use Rattle.rules.specs.Calls.{Reply, refused, to_blocks, accepted, reply}
 use Rattle.rules.proofs.Tabled.{table_length}
 use Rattle.text.specs.Writes.{Fills}
-use Rattle.text.specs.Answers.{line_of, blocks_word, block_line, block_lines, no_line, reply_text, line_length}
-use Rattle.text.proofs.Pieces.{wrote_behind, wrote_length, Rows, rows_start, rows_turn, rows_done}
+use Rattle.text.specs.Answers.{Told, line_of, blocks_word, block_line, block_lines, no_line, reply_text, line_length}
+use Rattle.text.proofs.Pieces.{told_is, wrote_behind, wrote_length, Rows, rows_start, rows_turn, rows_done}
 use Rattle.stores.specs.Promise.{Slices, call_of}
-use Rattle.std.specs.Prelude.{Result, Ok, Err}
+use Rattle.std.specs.Prelude.{Ok, Err}
 use Rattle.blocks.specs.declared.blocks.Found.{Found}
 use Rattle.blocks.specs.declared.blocks.Spot.{Spot}
 use Rattle.blocks.specs.Promise.{Leads, SearchPromise, NextPromise, answer_to, blocks_in}
@@ -98,9 +98,10 @@ module _ {os : List ℕ} {s : Slices} {out : List ℕ} (room : longest_answer �
 
   -- how many there are, and their lines
   pub blocks_told : {f : Found} {r : ℕ} {out' : List ℕ} {p : ℕ} {o : List ℕ} → ListsBlocks os s f o p r out'
-      → Fills out 0 (line_of blocks_word (f.count ∷ [])) (line_length 6 1) p o → SearchPromise os most_entries s (Ok f)
+      → Told (λ x y. y ≡ x) (f.count ∷ []) (λ ns. Fills out 0 (line_of blocks_word ns) (line_length 6 1) p o) → SearchPromise os most_entries s (Ok f)
       → Answers (call (to_blocks os most_entries)) s s out r out'
-  blocks_told {f = f} L A P =
+  blocks_told {f = f} {p = p} {o = o} L T P =
+      let A = told_is (f.count ∷ []) (λ ns. Fills out 0 (line_of blocks_word ns) (line_length 6 1) p o) T in
       let a = A.few in
       let b = L.few in
       record {

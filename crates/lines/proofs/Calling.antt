@@ -10,7 +10,6 @@ use borrow.Author.Tests.{leb-true}
 use lib.ListN.{length, get_or, take, drop, replicate, length-replicate}
 use lib.Seq.{sets, length-sets, length-take-le}
 use Rattle.rules.specs.declared.Refusal.{Refusal}
-use Rattle.rules.specs.declared.Report.{Report}
 use Rattle.rules.specs.declared.Score.{Score}
 use Rattle.rules.specs.Routes.{State}
 use Rattle.rules.specs.Calls.{Ask, Reply, reply, to_put, to_retract, to_load}

@@ -33,7 +33,8 @@ use Rattle.rules.specs.declared.Score.{Score}
 use Rattle.stores.specs.Words.{base_words}
 use Rattle.stores.specs.Promise.{Slices, lent_of, call_of, Stands, StandsFor, holding, unmarked, leaving, after, AnyPromise}
 use Rattle.stores.specs.Says.{says_scored}
-use Rattle.stores.proofs.Openings.{Long, long}
+use Rattle.stores.specs.Headers.{Long}
+use Rattle.stores.proofs.Openings.{long}
 use Rattle.stores.proofs.Tabled.{taken_sets}
 use Rattle.edges.proofs.Store.{encode_long as edges_long}
 use Rattle.routes.proofs.Placing.{encode_long as routes_long}

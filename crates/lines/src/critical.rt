@@ -26,13 +26,7 @@ fn rising(owners: &mut [u32], n: u32) -> usize
 }
 
 // The line of each block that was found.
-fn block_lines(
-    store: Store,
-    owners: &[u32],
-    found: Found,
-    out: &mut [u8],
-    at: usize,
-) -> usize
+fn block_lines(store: Store, owners: &[u32], found: Found, out: &mut [u8], at: usize) -> usize
     requires { (at + line_length 5 4 * most_entries ≤ length out.old) × (found.count ≤ most_entries) }
     ensures { ListsBlocks owners.now
         (held store.entry) found
@@ -48,11 +42,7 @@ fn block_lines(
 }
 
 // The blocks of a list of owners.
-fn blocks_of(
-    store: Store,
-    owners: &[u32],
-    out: &mut [u8],
-) -> usize
+fn blocks_of(store: Store, owners: &[u32], out: &mut [u8]) -> usize
     requires { longest_answer ≤ length out.old }
     ensures { Answers (call (to_blocks owners.now most_entries))
         (held store.entry)
@@ -68,11 +58,7 @@ fn blocks_of(
     }
 }
 
-pub(crate) fn crit(
-    store: Store,
-    owners: u32,
-    out: &mut [u8],
-) -> usize
+pub(crate) fn crit(store: Store, owners: u32, out: &mut [u8]) -> usize
     requires { longest_answer ≤ length out.old }
     ensures { Answers (call (to_blocks (up_to (min owners most_owners)) most_entries))
         (held store.entry)

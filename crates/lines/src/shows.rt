@@ -11,11 +11,7 @@ use rules::Plan;
 use text::answers::{line, no, score};
 
 // The line of the starts.
-fn starts(
-    store: Store,
-    out: &mut [u8],
-    at: usize,
-) -> usize
+fn starts(store: Store, out: &mut [u8], at: usize) -> usize
     requires { at + long_line ≤ length out.old }
     ensures { ShowsStarts
         (held store.entry)
@@ -32,11 +28,7 @@ fn starts(
 }
 
 // The line of the cycle, or those of the starts and of the line-up.
-fn judged(
-    store: Store,
-    out: &mut [u8],
-    at: usize,
-) -> usize
+fn judged(store: Store, out: &mut [u8], at: usize) -> usize
     requires { at + 2 * long_line ≤ length out.old }
     ensures { ShowsVerdict
         (held store.entry)
@@ -57,10 +49,7 @@ fn judged(
     }
 }
 
-pub(crate) fn show(
-    store: Store,
-    out: &mut [u8],
-) -> usize
+pub(crate) fn show(store: Store, out: &mut [u8]) -> usize
     requires { longest_answer ≤ length out.old }
     ensures { Answers whole_show
         (held store.entry)

@@ -17,8 +17,7 @@ use lines::opens::gather;
 use lines::steps::Typed;
 use lines::turns::answer_line;
 use lines::{ANSWER, FIXES, INPUT, NUMBERS};
-use refresh::score::Scored;
-use rules::Plan;
+use rules::{Plan, Refusal, Score};
 use std::io;
 use std::io::{ErrorKind, Read, Write};
 use text::answers::{SHORT, bad};
@@ -44,20 +43,20 @@ fn serve<W: Write>(
     let out: &mut [u8] = &mut space;
     let mut at: usize = 0;
     let mut line = before;
+    // A `while`: a turn goes as far as its line.
     while at < input.len() {
         line += 1;
         let t = answer_line(
             input, at, line, owners, base, spans, edges, routes, times, out,
         );
-        let n = t.bytes;
-        output.write_all(&out[..n])?;
+        output.write_all(&out[..t.bytes])?;
         at = t.next;
     }
     Ok(())
 }
 
 // The answer to `go`.
-fn begun<W: Write>(output: &mut W, answer: Scored) -> io::Result<()>
+fn begun<W: Write>(output: &mut W, answer: Result<Score, Refusal>) -> io::Result<()>
     ensures { OnOk result (Appends (W.contents output.old) (W.contents output.new) (reply_text (says_scored answer))) }
 {
     let mut out = [0u8; SHORT];

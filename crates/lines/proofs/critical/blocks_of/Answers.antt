@@ -1,4 +1,3 @@
-use Rattle.text.proofs.Pieces.{told_is}
 use Rattle.lines.proofs.Blocking.{blocks_no, blocks_told}
 use Rattle.lines.proofs.critical.blocks_of.Goals as goal
 
@@ -8,4 +7,4 @@ pub returns-in-Err : goal.returns-in-Err
 returns-in-Err c = blocks_no c.requires c.no.ensures c.in-Err.ensures
 
 pub returns-in-Ok : goal.returns-in-Ok
-returns-in-Ok c = blocks_told c.requires c.block_lines.ensures (told_is _ _ c.line-p.ensures) c.in-Ok.ensures
+returns-in-Ok c = blocks_told c.requires c.block_lines.ensures c.line-p.ensures c.in-Ok.ensures

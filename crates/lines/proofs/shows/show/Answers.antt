@@ -5,3 +5,6 @@ use Rattle.lines.proofs.shows.show.Goals as goal
 
 pub returns-in-Err : goal.returns-in-Err
 returns-in-Err c = shows_no c.requires c.no.ensures c.in-Err.ensures
+
+pub returns-in-Ok : goal.returns-in-Ok
+returns-in-Ok c = shows_score c.requires c.judged.ensures c.score-p.ensures c.in-Ok.ensures
