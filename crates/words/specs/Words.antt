@@ -1,5 +1,5 @@
 -- What the functions of `words` do to a list of words. Assumes nothing.
-use Rattle.std.specs.Prelude.{ℕ, zero, suc, ◌+◌, ◌-◌, min, cond, List, [], ◌∷◌, ◌++◌, Option, Some, None, get_or, set, eqb}
+use Rattle.std.specs.Prelude.{ℕ, zero, suc, ◌≡◌, ◌<◌, ◌+◌, ◌-◌, min, cond, List, [], ◌∷◌, ◌++◌, Option, Some, None, get_or, set, eqb}
 
 -- x at place k, what stood from there on one place up; the list is as long as it was, so its last element falls off
 unfoldable pub insert_at : {X : Type 0} → ℕ → X → List X → List X
@@ -22,6 +22,10 @@ unfoldable pub map_from : (ℕ → ℕ) → ℕ → List ℕ → List ℕ
 map_from f k [] = []
 map_from f zero (y ∷ l) = f y ∷ map_from f zero l
 map_from f (suc k) (y ∷ l) = y ∷ map_from f k l
+
+-- of each word the function f, which a call of it describes by `post`, gives what g does
+abbrev pub Gives : {F : Type 0} → (F → ℕ → ℕ → Type 0) → F → (ℕ → ℕ) → Type 0
+Gives post f g = (x y : ℕ) → x < 65536 → post f x y → y ≡ g x
 
 -- one more, up to the largest word
 abbrev pub up : ℕ → ℕ

@@ -2,10 +2,10 @@
 // every width.
 #![tactic(auto)]
 
-ghost use Rattle.std.specs.Prelude.{◌≡◌, ◌+◌, ◌-◌, ◌<◌, ◌≤◌, length, replicate, take};
+ghost use Rattle.std.specs.Prelude.{ℕ, ◌≡◌, ◌+◌, ◌-◌, ◌<◌, ◌≤◌, length, replicate, take};
 ghost use Rattle.std.proofs.Math.Seq.{slice};
 ghost use Rattle.std.proofs.lemmas.List.Edits.{sets};
-ghost use Rattle.words.specs.Words.{insert_at, remove_at, swap_remove, map_from, up, down, find_from};
+ghost use Rattle.words.specs.Words.{Gives, insert_at, remove_at, swap_remove, map_from, up, down, find_from};
 
 // A word as a number of places.
 pub fn wide(x: u16) -> usize
@@ -44,23 +44,29 @@ pub fn swap_remove(a: &mut [u16], p: usize, t: usize)
     remove_at(a, last);
 }
 
+// f of what stands there at each place from k on.
+fn map_from<F: Fn(u16) -> u16>(a: &mut [u16], k: usize, f: F)
+    requires { F.IsAlwaysCallable f }
+    ensures { (g : ℕ → ℕ) → Gives F.post f g → a.new ≡ map_from g k a.old }
+{
+    // By place: k may lie beyond the end, where no part of the slice begins.
+    for i in k..a.len() {
+        a[i] = f(a[i]);
+    }
+}
+
 // One more at each place from k on; the largest number stays.
 pub fn up_from(a: &mut [u16], k: usize)
     ensures { a.new ≡ map_from up k a.old }
 {
-    // By place, here and below: k may lie beyond the end, where no part of the slice begins.
-    for i in k..a.len() {
-        a[i] = a[i].saturating_add(1);
-    }
+    map_from(a, k, |x| x.saturating_add(1));
 }
 
 // One less at each place from k on; 0 stays.
 pub fn down_from(a: &mut [u16], k: usize)
     ensures { a.new ≡ map_from down k a.old }
 {
-    for i in k..a.len() {
-        a[i] = a[i].saturating_sub(1);
-    }
+    map_from(a, k, |x| x.saturating_sub(1));
 }
 
 // The first place from `from` up to, not including, `to` that holds x.

@@ -1,9 +1,0 @@
-use native.Mathlib.Omega.{arith}
-use Rattle.words.proofs.Sweeps.{map_done, map_next}
-use Rattle.words.proofs.up_from.Goals as goal
-
-pub loop-i-preserved : goal.loop-i-preserved
-loop-i-preserved c = map_next c.loop-i.invariant c.saturating_add.ensures (omega arith)
-
-pub returns : goal.returns
-returns c = map_done c.loop-i.invariant (omega arith)
