@@ -5,12 +5,6 @@ ghost use Rattle.rules.specs.Sizes.{base_length};
 
 use rules::{Plan, Refusal};
 
-pub fn broad(x: u32) -> usize
-    ensures { result ≡ x }
-{
-    x as usize
-}
-
 // Jobs, owners and fixed pairs of a loaded store.
 #[tactic(auto, using(crate::proofs::Openings::unloaded, crate::proofs::Openings::mismarked, crate::proofs::Openings::headed, crate::proofs::Openings::oversized))]
 fn told(base: &[u32]) -> Result<Plan, Refusal>
