@@ -1,49 +1,20 @@
 -- Elements written one after the other: what is still to write, behind what is written, gives the whole. Assumes nothing.
 use Prim.Native.Nat.{ℕ, suc, ◌+◌, ◌-◌, ◌≤◌, ◌<◌}
-use native.Mathlib.Nat.{add-zero}
 use native.Mathlib.Numerals.{add-one}
 use native.Mathlib.Omega.{arith}
 use mathlib.Core.Path.{◌≡◌, refl, sym, ap, ◌∙◌}
 use mathlib.Core.List.{List, ◌++◌, append-nil}
-use lib.ListN.{length, get_or, set, take, drop, replicate, length-replicate, length-set, length-drop, drop_of_length-le}
+use lib.ListN.{length, set, take, drop, replicate, length-replicate, length-set, length-drop, drop_of_length-le}
 use borrow.Rule.Slice.PartMut.{put_mid}
 use Rattle.std.proofs.lemmas.List.{take_all}
 use Rattle.std.proofs.lemmas.Slice.{put_mid-paste}
-use lib.Seq.{sets, sets-eq, slice, drop-cons, length-take-le, get_or-take, get_or-drop, length-slice}
+use lib.Seq.{sets, sets-eq, length-take-le}
 
 -- ── the words of l from place `at` on: i of them are there ──
 
 pub record Copying (a₀ : List ℕ) (at : ℕ) (l a : List ℕ) (i : ℕ) : Type 0 where
   pub long : length a ≡ length a₀
   pub left : sets a (at + i) (drop i l) ≡ sets a₀ at l
-
-pub copy_none : (a : List ℕ) (at : ℕ) (l : List ℕ) → Copying a at l a 0
-copy_none a at l = record { long = refl; left = rw add-zero }
-
-module _ {a₀ : List ℕ} {at : ℕ} {l a : List ℕ} {i : ℕ} (S : Copying a₀ at l a i) where
-  copy_next : (x : ℕ) → get_or l i 0 ≡ x → i < length l → Copying a₀ at l (set a (at + i) x) (i + 1)
-  copy_next x e h =
-      let p : at + (i + 1) ≡ suc (at + i) = omega arith in
-      record {
-        long = length-set a (at + i) x ∙ S.long;
-        left = rw (p, add-one i, ← e) (sym (ap (sets a (at + i)) (drop-cons l i 0 h)) ∙ S.left);
-      }
-
-  copy_done : length l ≤ i → a ≡ sets a₀ at l
-  copy_done h = sym (ap (sets a (at + i)) (drop_of_length-le l h)) ∙ S.left
-
-module _ (from k : ℕ) (s : List ℕ) {a₀ : List ℕ} {at : ℕ} {a : List ℕ} {i : ℕ} (S : Copying a₀ at (slice from (from + k) s) a i)
-    (fits : from + k ≤ length s) where
-  slice_long : length (slice from (from + k) s) ≡ k
-  slice_long = length-slice from (from + k) s fits ∙ omega arith
-
-  pub slice_next : i < k → Copying a₀ at (slice from (from + k) s) (set a (at + i) (get_or s (from + i) 0)) (i + 1)
-  slice_next h =
-      copy_next S (get_or s (from + i) 0)
-      (get_or-drop from (take (from + k) s) i 0 ∙ get_or-take (from + k) s (from + i) 0 (omega arith)) (rw slice_long h)
-
-  pub slice_done : k ≤ i → a ≡ sets a₀ at (slice from (from + k) s)
-  slice_done h = copy_done S (rw slice_long h)
 
 -- ── all of s from place `at` on, written at once ──
 

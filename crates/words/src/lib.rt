@@ -7,13 +7,6 @@ ghost use Rattle.std.proofs.Math.Seq.{slice};
 ghost use Rattle.std.proofs.lemmas.List.Edits.{sets};
 ghost use Rattle.words.specs.Words.{Gives, insert_at, remove_at, swap_remove, map_from, up, down, find_from};
 
-// A word as a number of places.
-pub fn wide(x: u16) -> usize
-    ensures { result ≡ x }
-{
-    x as usize
-}
-
 // Puts x at place k. What stood there and after it moves one up, and the last element falls off.
 pub fn insert_at<T: Copy>(a: &mut [T], k: usize, x: T)
     requires { k < length a.old }
@@ -76,18 +69,6 @@ pub fn find(a: &[u16], from: usize, to: usize, x: u16) -> Option<usize>
 {
     let k = a[from..to].iter().position(|y| *y == x)?;
     Some(from + k)
-}
-
-// The k words of s from `from` on, written at `at`.
-pub fn copy(a: &mut [u16], at: usize, s: &[u16], from: usize, k: usize)
-    requires { (at + k ≤ length a.old) × (from + k ≤ length s.now) }
-    ensures { a.new ≡ sets a.old at (slice from (from + k) s.now) }
-{
-    let mut i: usize = 0;
-    while i < k {
-        a[at + i] = s[from + i];
-        i += 1;
-    }
 }
 
 // All of s, written from place `at` on.
