@@ -1,6 +1,5 @@
 -- Laws that belong to no one function. Assumes nothing.
 pub mod Opening
-pub mod Reading
 pub mod Running
 pub mod Serving
 pub mod Writing

@@ -2,8 +2,8 @@
 // The lines up to `go` only fill tables; `go` loads them, and each later line is a call (crate lines).
 #![tactic(auto)]
 
-ghost use Rattle.std.specs.Prelude.{◌≤◌, ◌<◌, length, take, IfOk, OnOk, IfSome};
-ghost use Rattle.std.specs.Io.KnownBytes.{Appends, Consumes, IsAtEnd};
+ghost use Rattle.std.specs.Prelude.{◌≤◌, length, OnOk, IfSome};
+ghost use Rattle.std.specs.Io.KnownBytes.{Appends};
 ghost use Rattle.text.specs.Answers.{reply_text, bad_line};
 ghost use Rattle.stores.specs.Promise.{slices};
 ghost use Rattle.stores.specs.Says.{says_scored};
@@ -19,9 +19,10 @@ use lines::turns::answer_line;
 use lines::{ANSWER, FIXES, INPUT, NUMBERS};
 use rules::{Plan, Refusal, Score};
 use std::io;
-use std::io::{ErrorKind, Read, Write};
+use std::io::{Read, Write};
 use text::answers::{SHORT, bad};
 use text::fields::narrow;
+use text::inputs::read_full;
 
 // The lines behind `go`, of which `before` came before. What a line answers goes out before the next one is read; if it can't, the run ends.
 fn serve<W: Write>(
@@ -138,30 +139,6 @@ fn run<W: Write>(output: &mut W, input: &[u8]) -> io::Result<()>
             &to,
         ),
     }
-}
-
-// Reads until the places are full or the input ends, and answers how many bytes stand in front then. A read that a signal interrupts is made again.
-fn read_full<R: Read>(from: &mut R, input: &mut [u8]) -> io::Result<usize>
-    ensures within { IfOk result (λ n. n ≤ length input.new) }
-    ensures bytes { IfOk result (λ n. Consumes (R.remaining from.old) (R.remaining from.new) (take n input.new)) }
-    ensures end { IfOk result (λ n. n < length input.new → IsAtEnd (R.remaining from.new)) }
-{
-    let mut n: usize = 0;
-    for _ in 0..u64::MAX {
-        if input.len() <= n {
-            return Ok(n);
-        }
-        match from.read(&mut input[n..]) {
-            Ok(0) => return Ok(n),
-            Ok(k) => n += k,
-            Err(e) => {
-                if e.kind() != ErrorKind::Interrupted {
-                    return Err(e);
-                }
-            }
-        }
-    }
-    Err(io::Error::from(ErrorKind::Interrupted))
 }
 
 // The answers to all that is read. One byte more than the limit is asked for, so that a longer input shows.

@@ -5,6 +5,7 @@ pub mod LineEnds
 pub mod Namings
 pub mod Pieces
 pub mod Placing
+pub mod Reading
 pub mod Returning
 pub mod Runs
 pub mod Sampled

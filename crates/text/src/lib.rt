@@ -4,6 +4,7 @@
 pub mod answers;
 pub mod ends;
 pub mod fields;
+pub mod inputs;
 pub mod parses;
 pub mod vocabulary;
 pub mod writes;
