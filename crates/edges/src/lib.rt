@@ -1,5 +1,5 @@
 // Layer 1: the edges between the jobs, with a count each, in one lent slice of five tables. Words that make no sense are an error
-// where a table would be written, and nothing where one is read.
+// where a table would be written, and nothing where one is read. The slice is lent anew at each call, so each call asks for its length.
 #![tactic(auto)]
 
 pub mod fixed;
