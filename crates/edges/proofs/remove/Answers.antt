@@ -40,4 +40,4 @@ returns-then-w-gt-ROOM c =
 pub returns-else-w-v : goal.returns-else-w-v
 returns-else-w-v c =
     remove_vanished c.look.ensures c.requires.1 c.requires.2 (c.in_ok-look.was ∙ ap Ok c.in-At.is) c.look-in-At.ensures
-    (c.in_ok-s-in-At.was ∙ ap Ok c.in-At-2.is) c.from-w.ensures c.times-n.ensures c.if-n-gt1.false c.vanish.ensures
+    (c.in_ok-s-in-At.was ∙ ap Ok c.in-At-2.is) c.from-w.ensures c.times-n.ensures (omega arith) c.vanish.ensures
