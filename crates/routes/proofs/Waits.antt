@@ -22,7 +22,7 @@ use Rattle.routes.specs.Handing.{Stopped, Waiting, GivenUp, Freed, given_up}
 use Rattle.routes.specs.Desks.{edges_from, edges_of, routes_of, Desked}
 use Rattle.routes.specs.Promises.{Retracted, Cleared}
 use Rattle.words.proofs.Rows.{row_cons, row_none}
-use Rattle.routes.proofs.Placing.{sized, with_waiting, at_waiters, waits_count, waits_few}
+use Rattle.routes.proofs.Placing.{waits_many, waiting_is, sized, with_waiting, at_waiters, waits_count, waits_few}
 use Rattle.routes.proofs.Wellformed.{routes_wf}
 
 -- ── what they give up ──
@@ -57,7 +57,7 @@ module _ {l : List ℕ} {o : ℕ} {row : List ℕ} {sum i : ℕ} (F : Freeing l 
     is = λ m H. rw (← W.is m H) (let a = F.rest m H in omega (arith, ap (sum_of (λ w. given_up o w m)) (row_none row i h)));
   }
 
-pub ruleset freeing = (rules, given_own, given_row, freed_none, freed_on, freed_done)
+pub ruleset freeing = (given_own, given_row, freed_none, freed_on, freed_done, waits_many, waiting_is)
 
 -- ── a search ──
 

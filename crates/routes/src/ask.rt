@@ -1,4 +1,6 @@
 // What a put is refused for before the routes are looked at.
+#![tactic(auto, using(crate::proofs::Asking::asking))]
+
 ghost use Rattle.std.specs.Prelude.{◌≡◌};
 ghost use Rattle.routes.specs.Asks.{ask_of};
 

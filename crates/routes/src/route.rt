@@ -1,4 +1,6 @@
 // An owner's route becomes another, in the words of the routes.
+#![tactic(auto, using(crate::proofs::Reseating::fitting))]
+
 ghost use Rattle.std.specs.Prelude.{◌≡◌, ◌≤◌, length, replicate};
 ghost use Rattle.std.proofs.lemmas.List.Edits.{sets};
 ghost use Rattle.rules.specs.Sizes.{most_entries, routes_length};

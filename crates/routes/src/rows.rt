@@ -1,4 +1,6 @@
 // What the words hold of the routes, handed out: rows are parts of the caller's slice. For words that make no sense a row is empty.
+#![tactic(auto, using(crate::proofs::Placing::handing))]
+
 ghost use Rattle.std.specs.Prelude.{◌≡◌, length};
 ghost use Rattle.rules.specs.Sizes.{routes_length};
 ghost use Rattle.routes.specs.Handing.{Stopped, Forced, Broken, Faults, Assigned};

@@ -1,4 +1,6 @@
 // The waiting owners, in the order they began to wait.
+#![tactic(auto, using(crate::proofs::Waits::freeing))]
+
 ghost use Rattle.std.specs.Prelude.{◌≡◌, ◌<◌, length};
 ghost use Rattle.rules.specs.Sizes.{most_owners, routes_length};
 ghost use Rattle.routes.specs.Handing.{Waiting, GivenUp, Freed};

@@ -6,6 +6,3 @@ returns-then-t-f c = search handing
 
 pub returns-then-t-gt-ENTRIES : goal.returns-then-t-gt-ENTRIES
 returns-then-t-gt-ENTRIES c = search handing
-
-pub returns : goal.returns
-returns c = search handing
