@@ -1,5 +1,5 @@
 -- Laws of pulled starts; f is each job's floor. Assumes nothing.
-use Rattle.std.proofs.Common.{◌≡◌, ℕ, suc, ◌+◌, ◌%◌, ◌^◌, ◌<◌, ◌≤◌, max, Bool, true, false, List, [], ◌∷◌, length, get_or, take, drop, set, sym, refl, ap, ◌∙◌, mod-eq_of_lt, add-one, arith, get_or-set_other, get_or-take, get_or-set_same, drop-set-lt, rules, le-leb}
+use Rattle.std.proofs.Common.{◌≡◌, ℕ, suc, ◌+◌, ◌%◌, ◌^◌, ◌<◌, ◌≤◌, max, Bool, true, false, List, [], ◌∷◌, length, get_or, take, drop, set, sym, refl, ap, ◌∙◌, mod-eq_of_lt, add-one, arith, get_or-set_other, length-take-le, get_or-set_same, drop-set-lt, rules, le-leb}
 use borrow.Author.Tests.{lt-leb}
 use Rattle.rules.specs.Graphs.{LineUp}
 use Rattle.rules.specs.Lists.{memb}
@@ -85,17 +85,19 @@ sofar_none e sp f o n s = record {
 
 module _ {e sp : List ℕ} {f : ℕ → ℕ} {o : List ℕ} {n i : ℕ} {s₀ s : List ℕ} (S : Sofar e sp f o n i s₀ s) (floors : (u : ℕ) → f u ≤ longest)
     (hn : n ≤ most_jobs) where
-  module _ (hi : i < n) (ls : length s ≡ length s₀) (l₀ : n ≤ length s₀) (v : ℕ) (ev : v ≡ get_or o i 0) where
-    here : v ≡ get_or (take n o) i 0
-    here = ev ∙ sym (get_or-take n o i 0 hi)
+  module _ (lo : n ≤ length o) (hj : i < length (take n o)) (ls : length s ≡ length s₀) (l₀ : n ≤ length s₀) (v : ℕ)
+      (here : v ≡ get_or (take n o) i 0) where
+    hi : i < n
+    hi = let a = length-take-le n o lo in omega arith
 
     module _ (m : Model) (h : Holds e m) (b : Below n m) (d : (u : ℕ) → u < n → at sp u ≤ longest) (w : LineUp n (live m) (take n o)) where
       sofar_in : v < n
-      sofar_in = rw here (w.within i (omega (arith, lineup_length n (live m) (take n o) w)))
+      sofar_in = rw here (w.within i (let z = hi in omega (arith, lineup_length n (live m) (take n o) w)))
 
       sofar_low : Low m sp s v
       sofar_low u e' =
           let hu = (b u v e').0 in
+          let z = hi in
           let (p, k, l) = settle.settled_low n (live m) f (at sp) longest longest (take n o) w
           (lineup_length n (live m) (take n o) w) (λ u h. floors u) d i hi (at s) (S.settled m h b d w) u hu (rw (← here) e') in
           (omega arith, let x = d u hu in omega arith)
@@ -118,12 +120,12 @@ module _ {e sp : List ℕ} {f : ℕ → ℕ} {o : List ℕ} {n i : ℕ} {s₀ s 
     pub sofar_out : n ≤ v → Settles e sp f s₀ o n s
     sofar_out k = record { beyond = S.beyond; solves = λ m h b d w. let a = sofar_in m h b d w in let z : ⊥ = omega arith in absurd z }
 
-  pub sofar_done : i ≤ n → n ≤ i → Settles e sp f s₀ o n s
-  sofar_done x y = record {
+  pub sofar_done : n ≤ length o → i ≤ length (take n o) → length (take n o) ≤ i → Settles e sp f s₀ o n s
+  sofar_done lo x y = record {
     beyond = S.beyond;
     solves = λ m h b d w.
         settle.settled_all n (live m) f (at sp) longest longest (take n o) w
-        (lineup_length n (live m) (take n o) w) (λ u h. floors u) d (at s) (let q : i ≡ n = omega arith in rw q at (S.settled m h b d w));
+        (lineup_length n (live m) (take n o) w) (λ u h. floors u) d (at s) (let a = length-take-le n o lo in let q : i ≡ n = omega arith in rw q at (S.settled m h b d w));
   }
 
 -- ── full ──

@@ -46,8 +46,8 @@ fn settle(e: &[u16], spans: &[u64], starts: &mut [u64], order: &[u16], n: usize)
     ensures { Settles e.now spans.now zeros
         starts.old order.now n starts.new }
 {
-    for i in 0..n {
-        let v = usize::from(order[i]);
+    for &v in &order[..n] {
+        let v = usize::from(v);
         if n <= v {
             return;
         }

@@ -3,8 +3,8 @@ use Rattle.starts.proofs.settle.Goals as goal
 
 -- `settle`. Assumes nothing.
 
-pub loop-i-preserved : goal.loop-i-preserved
-loop-i-preserved c = search pulling
+pub loop-v-preserved : goal.loop-v-preserved
+loop-v-preserved c = search pulling
 
 pub returns : goal.returns
 returns c = search pulling
