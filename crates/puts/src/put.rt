@@ -142,6 +142,7 @@ fn put_stops(
 
 // The owner's route becomes these entries. The heads of edges that appeared are listed in `came`, of those that vanished through the owner
 // in `went`, and through waiting owners in `gone`.
+// The slices stand apart, not in a struct: each is lent mutably, and the caller goes on with each by itself.
 pub fn put(
     r: &mut [u16],
     e: &mut [u16],

@@ -28,6 +28,7 @@ fn code(last: u32, job: u32) -> u32
 }
 
 // The edges of a route, into the front of `out`: one for each stop that is joined to the one before.
+// The answer is how many, not that front: the caller lends it mutably afterwards.
 pub fn links_of(s: &[u16], out: &mut [u32]) -> usize
     requires { length s.now ≤ length out.old }
     ensures { Linked s.now out.new result }
@@ -62,7 +63,7 @@ fn seat_in(a: &mut [u32], n: usize, x: u32)
 }
 
 // Which of the old edges have no equal one among the new ones, into the front of `old`: equals together, each by its first place. The new
-// ones that are matched are struck out.
+// ones that are matched are struck out. The answer is how many, not that front: the caller reads `new` beside it.
 pub fn differences(old: &mut [u32], new: &mut [u32]) -> usize
     ensures { Differed old.old new.old old.new new.new result }
 {

@@ -9,6 +9,7 @@ use edges::{Added, Removed};
 use rules::{Job, Plan, Senseless};
 
 // One edge more or less, and whether it appears or vanishes. A number that is no edge is passed over.
+// `more` is a flag, not a closure: what comes and what goes are two cases of each definition that the promise cites.
 fn turn(e: &mut [u16], x: u32, more: bool) -> Result<bool, Senseless>
     requires { length e.old ≡ edges_length }
     ensures { Turned more x e.old e.new result }
