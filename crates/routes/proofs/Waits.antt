@@ -2,7 +2,6 @@
 use Rattle.std.proofs.Common.{◌≡◌, ℕ, ◌||◌, ◌==◌, eqb, eqb-true, suc, ◌+◌, ◌-◌, ◌*◌, ◌<◌, ◌≤◌, Bool, true, false, List, [], ◌∷◌, ◌++◌, length, get_or, drop, set, replicate, sym, refl, ap, ◌∙◌, ⊎_elim, append_assoc, arith, length-append, drop-drop, rules, eq-eqb, ne_eqb, Result, Ok, Err}
 use lib.ListN.{length-map}
 use lib.Seq.{sets, sets-eq, set_at}
-use borrow.Author.Tests.{eqb-false}
 use Rattle.std.specs.List.{list_any}
 use Rattle.rules.specs.Lists.{memb, sum_of}
 use Rattle.rules.specs.Sizes.{most_owners, most_entries, routes_length}
@@ -22,6 +21,7 @@ use Rattle.routes.specs.Handing.{Stopped, Waiting, GivenUp, Freed, given_up}
 use Rattle.routes.specs.Desks.{edges_from, edges_of, routes_of, Desked}
 use Rattle.routes.specs.Promises.{Retracted, Cleared}
 use Rattle.words.proofs.Rows.{row_cons, row_none}
+use Rattle.routes.proofs.Lists.{swap_eqb}
 use Rattle.routes.proofs.Placing.{waits_many, waiting_is, sized, with_waiting, at_waiters, waits_count, waits_few}
 use Rattle.routes.proofs.Wellformed.{routes_wf}
 
@@ -61,15 +61,9 @@ pub ruleset freeing = (given_own, given_row, freed_none, freed_on, freed_done, w
 
 -- ── a search ──
 
-eqb_turned : (x y : ℕ) → eqb x y ≡ eqb y x
-eqb_turned x y = elim (test (eqb x y)) [
-  | pass z ↦ z ∙ sym (eq-eqb y x (sym (eqb-true x y z)))
-  | fail z ↦ z ∙ sym (ne_eqb y x (λ q. eqb-false x y z (sym q)))
-]
-
 memb_any : (x : ℕ) (l : List ℕ) → list_any (λ y. y == x) l ≡ memb x l
 memb_any x [] = refl
-memb_any x (y ∷ l) = rw (memb_any x l) (ap (λ (b : Bool). b || memb x l) (eqb_turned y x))
+memb_any x (y ∷ l) = rw (memb_any x l) (ap (λ (b : Bool). b || memb x l) (swap_eqb y x))
 
 -- ── an owner begins to wait ──
 
