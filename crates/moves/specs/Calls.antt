@@ -25,11 +25,11 @@ abbrev pub says_moved : List ℕ → Result Moved Refusal → Reply
 says_moved out = says (λ (m : Moved). rerouted (places m.length out) m.quick m.full)
 
 -- the move that is asked for
-abbrev pub move_of : Asked → List ℕ → Move
-move_of (One s d) l = list_change s d
-move_of (Range a b d) l = sublist_change a b d
-move_of (Swap a b c d) l = sublist_swap a b c d
-move_of (Order a b) l = permutation a b l
+abbrev pub move_of : Asked → Move
+move_of (One s d) = list_change s d
+move_of (Range a b d) = sublist_change a b d
+move_of (Swap a b c d) = sublist_swap a b c d
+move_of (Order a b l) = permutation a b l.now
 
 -- ── the owner's route ──
 

@@ -96,37 +96,32 @@ fn finish(
     judge(store, plan, old, new, out)
 }
 
-// A move, as the numbers that it is asked with; the list of a permutation stands beside it.
+// A move, as it is asked for.
 #[derive(Clone, Copy)]
-enum Asked {
+enum Asked<'a> {
     One(u32, u32),
     Range(u32, u32, u32),
     Swap(u32, u32, u32, u32),
-    Order(u32, u32),
+    Order(u32, u32, &'a [u32]),
 }
 
 // Whether the positions are good, and if they are the new route.
-fn place(asked: Asked, list: &[u32], old: &[u16], new: &mut [u16]) -> bool
+// A switch: in its place a closure would need clauses of its own, on the rows that it may be lent and on what it writes.
+fn place(asked: Asked, old: &[u16], new: &mut [u16]) -> bool
     requires { (length new.old ≡ length old.now) × (length old.now ≤ most_entries) }
-    ensures { Places (move_of asked list.now) old.now result new.new }
+    ensures { Places (move_of asked.entry) old.now result new.new }
 {
     match asked {
         Asked::One(source, dest) => place_one(old, source, dest, new),
         Asked::Range(start, end, dest) => place_range(old, start, end, dest, new),
         Asked::Swap(a, b, c, d) => place_swap(old, a, b, c, d, new),
-        Asked::Order(start, end) => place_order(old, start, end, list, new),
+        Asked::Order(start, end, list) => place_order(old, start, end, list, new),
     }
 }
 
 // What every move does.
-fn answer(
-    store: Store,
-    owner: Owner,
-    asked: Asked,
-    list: &[u32],
-    out: &mut [u32],
-) -> Result<Moved, Refusal>
-    ensures { Promise (to_move owner.0 (move_of asked list.now) (length out.old)) (held store.entry) (held store.entry)
+fn answer(store: Store, owner: Owner, asked: Asked, out: &mut [u32]) -> Result<Moved, Refusal>
+    ensures { Promise (to_move owner.0 (move_of asked.entry) (length out.old)) (held store.entry) (held store.entry)
         out.old out.new (says_moved out.new result) }
 {
     let mut old = [0u16; Plan::ENTRIES];
@@ -134,7 +129,7 @@ fn answer(
     let (plan, len) = begin(store, owner, &mut old)?;
     let old = &old[..len];
     let new = &mut new[..len];
-    if !place(asked, list, old, new) {
+    if !place(asked, old, new) {
         return Err(Refusal::BadPositions);
     }
     finish(store, plan, old, new, out)
@@ -151,7 +146,7 @@ pub fn list_change(
     ensures { Promise (to_move owner.0 (list_change source dest) (length out.old)) (held store.entry) (held store.entry)
         out.old out.new (says_moved out.new result) }
 {
-    answer(store, owner, Asked::One(source, dest), &[], out)
+    answer(store, owner, Asked::One(source, dest), out)
 }
 
 // A part of a route goes to another place.
@@ -166,7 +161,7 @@ pub fn sublist_change(
     ensures { Promise (to_move owner.0 (sublist_change start end dest) (length out.old)) (held store.entry) (held store.entry)
         out.old out.new (says_moved out.new result) }
 {
-    answer(store, owner, Asked::Range(start, end, dest), &[], out)
+    answer(store, owner, Asked::Range(start, end, dest), out)
 }
 
 // Two parts of a route change places.
@@ -182,7 +177,7 @@ pub fn sublist_swap(
     ensures { Promise (to_move owner.0 (sublist_swap a b c d) (length out.old)) (held store.entry) (held store.entry)
         out.old out.new (says_moved out.new result) }
 {
-    answer(store, owner, Asked::Swap(a, b, c, d), &[], out)
+    answer(store, owner, Asked::Swap(a, b, c, d), out)
 }
 
 // A part of a route in another order.
@@ -197,5 +192,5 @@ pub fn permutation(
     ensures { Promise (to_move owner.0 (permuted start end list.now) (length out.old)) (held store.entry) (held store.entry)
         out.old out.new (says_moved out.new result) }
 {
-    answer(store, owner, Asked::Order(start, end), list, out)
+    answer(store, owner, Asked::Order(start, end, list), out)
 }
