@@ -1,2 +1,1 @@
 -- Laws that belong to no one function. Assumes nothing.
-pub mod Ahead

@@ -1,2 +1,1 @@
 -- What the readers promise. Assumes nothing.
-pub mod Places

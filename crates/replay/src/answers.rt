@@ -1,95 +1,80 @@
 // Answers as numbers: the first two letters of the word, then what follows it.
-use crate::lists::{least, push, signed, wide};
-use rules::{Block, Refusal, Report, Score};
-
-fn letter(b: u8) -> i64 {
-    b as i64
-}
+use crate::lists::{Number, Numbers};
+use moves::moved::Moved;
+use refresh::put::Change;
+use refresh::verdict::Judged;
+use rules::{Block, Refusal, Score};
 
 // A word's first two letters.
-pub(crate) fn word(out: &mut [i64], a: u8, b: u8) -> usize {
-    let n = push(out, 0, letter(a));
-    push(out, n, letter(b))
+pub(crate) fn word(out: &mut Numbers, letters: &[u8; 2]) {
+    for b in letters {
+        out.push(i64::from(*b));
+    }
 }
 
-pub(crate) fn refused(out: &mut [i64], r: Refusal) -> usize {
-    let n = word(out, b'n', b'o');
-    let k = r.number() as i64;
-    push(out, n, k)
+pub(crate) fn refused(out: &mut Numbers, r: Refusal) {
+    word(out, b"no");
+    out.push(i64::from(r.number()));
 }
 
 // A word and a score's parts.
-fn parts(out: &mut [i64], a: u8, b: u8, s: Score) -> usize {
-    let hard = s.hard;
-    let soft = s.soft;
-    let n = word(out, a, b);
-    let m = push(out, n, hard);
-    push(out, m, soft)
+fn parts(out: &mut Numbers, letters: &[u8; 2], s: Score) {
+    word(out, letters);
+    out.push(s.hard);
+    out.push(s.soft);
 }
 
-pub(crate) fn ok(out: &mut [i64], s: Score) -> usize {
-    parts(out, b'o', b'k', s)
+pub(crate) fn ok(out: &mut Numbers, s: Score) {
+    parts(out, b"ok", s);
 }
 
-fn kind(r: Report) -> i64 {
-    match r {
-        Report::Skipped => 0,
-        Report::Full => 1,
-        Report::CycleFound => 2,
-        Report::Incremental(_) => 3,
+pub(crate) fn changed(out: &mut Numbers, change: Change) {
+    ok(out, change.score);
+    out.count(change.report.kind());
+    out.count(u64::from(change.report.visits()));
+}
+
+pub(crate) fn counted(out: &mut Numbers, s: Score, matches: u64) {
+    parts(out, b"sc", s);
+    out.count(matches);
+}
+
+// The first k of a list: how many they are, and its elements.
+fn list<T: Number>(out: &mut Numbers, list: &[T], k: usize) {
+    out.count(k.min(list.len()) as u64);
+    for x in list.iter().take(k) {
+        out.count(x.wide());
     }
 }
 
-pub(crate) fn changed(out: &mut [i64], s: Score, r: Report) -> usize {
-    let n = ok(out, s);
-    let m = push(out, n, kind(r));
-    let v = r.visits();
-    push(out, m, signed(wide(v)))
-}
-
-pub(crate) fn counted(out: &mut [i64], s: Score, matches: u64) -> usize {
-    let n = parts(out, b's', b'c', s);
-    push(out, n, signed(matches))
-}
-
-// A list's length and its elements, behind n numbers.
-pub(crate) fn jobs(out: &mut [i64], n: usize, list: &[u32], k: usize) -> usize {
-    let all = least(k, list.len());
-    let mut m = push(out, n, signed(all as u64));
-    let mut i: usize = 0;
-    while i < all {
-        m = push(out, m, signed(wide(list[i])));
-        i += 1;
+pub(crate) fn judged(out: &mut Numbers, shown: Judged, jobs: &[u32]) {
+    match shown {
+        Judged::LineUp(k) => {
+            word(out, b"or");
+            list(out, jobs, k);
+        }
+        Judged::Cycle(k) => {
+            word(out, b"cy");
+            list(out, jobs, k);
+        }
     }
-    m
 }
 
-pub(crate) fn starts(out: &mut [i64], list: &[u64], k: usize) -> usize {
-    let all = least(k, list.len());
-    let n = word(out, b's', b't');
-    let mut m = push(out, n, signed(all as u64));
-    let mut i: usize = 0;
-    while i < all {
-        m = push(out, m, signed(list[i]));
-        i += 1;
+pub(crate) fn started(out: &mut Numbers, starts: &[u64], k: usize) {
+    word(out, b"st");
+    list(out, starts, k);
+}
+
+pub(crate) fn block(out: &mut Numbers, b: Block) {
+    for x in [b.owner, b.first, b.last, b.length] {
+        out.count(u64::from(x));
     }
-    m
 }
 
-pub(crate) fn block(out: &mut [i64], n: usize, b: Block) -> usize {
-    let p = push(out, n, signed(wide(b.owner)));
-    let q = push(out, p, signed(wide(b.first)));
-    let r = push(out, q, signed(wide(b.last)));
-    push(out, r, signed(wide(b.length)))
-}
-
-fn bit(b: bool) -> i64 {
-    if b { 1 } else { 0 }
-}
-
-pub(crate) fn moved(out: &mut [i64], quick: bool, full: bool, list: &[u32], k: usize) -> usize {
-    let n = word(out, b'm', b'o');
-    let p = push(out, n, bit(quick));
-    let q = push(out, p, bit(full));
-    jobs(out, q, list, k)
+// Both verdicts, and the new route.
+pub(crate) fn moved(out: &mut Numbers, m: Moved, route: &[u32]) {
+    word(out, b"mo");
+    out.push(i64::from(m.quick));
+    out.push(i64::from(m.full));
+    list(out, route, m.length);
 }

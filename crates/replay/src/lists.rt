@@ -1,199 +1,154 @@
-// Numbers in a list with a count. What doesn't fit is left out.
-ghost use Rattle.std.specs.Prelude.{ℕ, ◌+◌, ◌≤◌, min, ◌≡◌, length};
+// Numbers in a row of fixed room, and the arguments of a call as they are read. What doesn't fit is left out.
+ghost use Rattle.std.specs.Prelude.{◌+◌, ◌<◌, ◌≤◌, length, IfSome};
 ghost use Rattle.rules.specs.Sizes.{most_entries};
-ghost use Rattle.replay.specs.Places.{From};
 
 use rules::Plan;
-use text::fields::{Field, narrow};
+use text::fields::number;
 
 // Places for a list that a call is asked with: more than it may have.
 pub(crate) const LIST: usize = Plan::FIXED + Plan::ENTRIES;
 
 // Places for the numbers of a line: a load has four lists.
-pub(crate) const NUMBERS: usize = 4 * LIST;
+const NUMBERS: usize = 4 * LIST;
 
-pub(crate) fn wide(x: u32) -> u64
-    ensures { result ≡ x }
-{
-    x as u64
+// The numbers of a line, or of an answer.
+#[derive(Drop)]
+pub(crate) struct Numbers {
+    all: [i64; NUMBERS],
+    length: usize,
+    ghost few: { length ≤ 16384 },
 }
 
-// A duration; a number of 2^63 or more was read as -1, and is the largest.
-fn large(x: i64) -> u64 {
-    if x < 0 {
-        18446744073709551615
-    } else {
-        x as u64
+impl Numbers {
+    pub(crate) fn new() -> Self {
+        Numbers {
+            all: [0i64; NUMBERS],
+            length: 0,
+        }
+    }
+
+    pub(crate) fn as_slice(&self) -> &[i64] {
+        &self.all[..self.length]
+    }
+
+    pub(crate) fn clear(&mut self) {
+        self.length = 0;
+    }
+
+    pub(crate) fn push(&mut self, x: i64) {
+        if self.length < NUMBERS {
+            self.all[self.length] = x;
+            self.length += 1;
+        }
+    }
+
+    // A number of the library; one that is too wide is -1.
+    pub(crate) fn count(&mut self, x: u64) {
+        self.push(signed(x));
+    }
+
+    // The fields of a line from a place on.
+    pub(crate) fn read(&mut self, line: &[u8], from: usize) {
+        let mut at = from;
+        // A `while`: how far a turn goes is what `field` answers.
+        while at < line.len() {
+            let Some((v, end)) = field(line, at) else {
+                return;
+            };
+            self.push(v);
+            at = end;
+        }
     }
 }
 
-// A number of the library's width; one that is too wide is its largest.
-pub(crate) fn small(x: i64) -> u32 {
-    narrow(large(x))
+fn signed(x: u64) -> i64 {
+    i64::try_from(x).unwrap_or(-1)
 }
 
-fn count(x: i64) -> usize {
-    if x < 0 { 0 } else { x as usize }
+// The field at a place: a space and a number with its sign, and the place after it.
+fn field(line: &[u8], at: usize) -> Option<(i64, usize)>
+    requires { at < length line.now }
+    ensures { IfSome result (λ r. at < r.1) }
+{
+    if line[at + 1..].starts_with(b"-") {
+        let (v, end) = number(line, at + 2)?;
+        return Some((-i64::try_from(v).ok()?, end));
+    }
+    let (v, end) = number(line, at + 1)?;
+    Some((signed(v), end))
 }
 
-// A number as the lists hold it; one that is too wide is -1.
-pub(crate) fn signed(x: u64) -> i64 {
-    if x < 9223372036854775808 {
-        x as i64
-    } else {
-        0 - 1
+// A number of the library's lists. One of the text that is too wide is its largest; so is -1, as which one of 2^63 or more was read.
+pub(crate) trait Number: Copy {
+    fn of(x: i64) -> Self;
+
+    fn wide(self) -> u64;
+}
+
+impl Number for u32 {
+    fn of(x: i64) -> u32 {
+        u32::try_from(x).unwrap_or(u32::MAX)
+    }
+
+    fn wide(self) -> u64 {
+        u64::from(self)
     }
 }
 
-pub(crate) fn least(a: usize, b: usize) -> usize
-    ensures { result ≡ min a b }
-{
-    if a < b { a } else { b }
-}
-
-pub(crate) fn push(list: &mut [i64], n: usize, x: i64) -> usize {
-    if n < list.len() {
-        list[n] = x;
-        return n + 1;
+impl Number for u64 {
+    fn of(x: i64) -> u64 {
+        u64::try_from(x).unwrap_or(u64::MAX)
     }
-    n
-}
 
-pub(crate) fn get(list: &[i64], i: usize) -> i64 {
-    if i < list.len() { list[i] } else { 0 }
-}
-
-#[derive(Clone, Copy)]
-enum Read {
-    Is(i64, usize),
-    Ends,
-}
-
-// The number behind a place, as the text has it.
-fn unsigned_at(line: &[u8], at: usize) -> Read
-    ensures { From at result }
-{
-    match text::fields::number(line, at) {
-        Field::Is(v, e) => Read::Is(signed(v), e),
-        Field::Bad => Read::Ends,
+    fn wide(self) -> u64 {
+        self
     }
 }
 
-// The opposite.
-fn turned(r: Read) -> Read
-    ensures { (n : ℕ) → From n r → From n result }
-{
-    match r {
-        Read::Is(v, e) => {
-            if v < 0 {
-                return Read::Ends;
+// What is left to read of a call's arguments.
+#[derive(Drop)]
+pub(crate) struct Args<'a> {
+    pub(crate) rest: &'a [i64],
+}
+
+impl<'a> Args<'a> {
+    // The next number; 0 where there is none.
+    fn next(&mut self) -> i64 {
+        match self.rest {
+            [first, rest @ ..] => {
+                self.rest = rest;
+                *first
             }
-            Read::Is(0 - v, e)
-        }
-        Read::Ends => Read::Ends,
-    }
-}
-
-// The field at a place: a space and a number with its sign.
-fn field(line: &[u8], at: usize) -> Read
-    ensures { From (at + 1) result }
-{
-    if line.len() <= at {
-        return Read::Ends;
-    }
-    let from = at + 1;
-    if from < line.len() {
-        if line[from] == b'-' {
-            return turned(unsigned_at(line, from + 1));
+            [] => 0,
         }
     }
-    unsigned_at(line, from)
-}
 
-// The fields from a place on, behind n numbers. How many there are then.
-pub(crate) fn fields(line: &[u8], from: usize, list: &mut [i64], n: usize) -> usize {
-    let mut at = from;
-    let mut k = n;
-    while at < line.len() {
-        match field(line, at) {
-            Read::Ends => return k,
-            Read::Is(v, e) => {
-                k = push(list, k, v);
-                at = e;
-            }
+    // A job, an owner or a position.
+    pub(crate) fn number(&mut self) -> u32 {
+        u32::of(self.next())
+    }
+
+    fn length(&mut self) -> usize {
+        usize::try_from(self.next()).unwrap_or(0)
+    }
+
+    // A room for answers, as far as there are places in a list of as many as a route has.
+    pub(crate) fn room(&mut self) -> usize
+        ensures { result ≤ most_entries }
+    {
+        self.length().min(Plan::ENTRIES)
+    }
+
+    // A list: its length, then its elements. How many of them `out` has.
+    pub(crate) fn list<T: Number>(&mut self, out: &mut [T]) -> usize
+        ensures { result ≤ length out.new }
+    {
+        let n = self.length();
+        let (items, rest) = self.rest.split_at(n.min(self.rest.len()));
+        self.rest = rest;
+        for (place, x) in out.iter_mut().zip(items) {
+            *place = T::of(*x);
         }
+        n.min(out.len())
     }
-    k
-}
-
-// A room for answers: the number at a place, as far as there are places in a list of as many as a route has.
-pub(crate) fn room_at(list: &[i64], i: usize) -> usize
-    ensures { result ≤ most_entries }
-{
-    least(count(get(list, i)), Plan::ENTRIES)
-}
-
-// A list within the numbers: its length at a place, then its elements. How many were written.
-pub(crate) fn jobs_at(list: &[i64], at: usize, out: &mut [u32]) -> usize
-    ensures { result ≤ length out.new }
-{
-    let k = least(count(get(list, at)), out.len());
-    let mut i: usize = 0;
-    while i < k {
-        out[i] = small(element(list, at, i));
-        i += 1;
-    }
-    k
-}
-
-pub(crate) fn spans_at(list: &[i64], at: usize, out: &mut [u64]) -> usize
-    ensures { result ≤ length out.new }
-{
-    let k = least(count(get(list, at)), out.len());
-    let mut i: usize = 0;
-    while i < k {
-        out[i] = large(element(list, at, i));
-        i += 1;
-    }
-    k
-}
-
-// Element i of the list whose length stands at a place.
-fn element(list: &[i64], at: usize, i: usize) -> i64 {
-    if at < list.len() {
-        if i < list.len() - at {
-            return get(list, behind(at, i, list.len()));
-        }
-    }
-    0
-}
-
-// The place i behind the one after `at`, as far as there are places.
-fn behind(at: usize, i: usize, len: usize) -> usize {
-    if len <= at {
-        return len;
-    }
-    if len - at <= i {
-        return len;
-    }
-    at + i + 1
-}
-
-// The place behind a list that begins at a place.
-pub(crate) fn after(list: &[i64], at: usize) -> usize {
-    behind(at, count(get(list, at)), list.len())
-}
-
-pub(crate) fn same(a: &[i64], b: &[i64]) -> bool {
-    if a.len() != b.len() {
-        return false;
-    }
-    let mut i: usize = 0;
-    while i < a.len() {
-        if get(a, i) != get(b, i) {
-            return false;
-        }
-        i += 1;
-    }
-    true
 }

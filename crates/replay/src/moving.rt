@@ -1,155 +1,55 @@
-// The four moves.
-use crate::answers::{moved, refused};
-use crate::calls::owner_of;
-use crate::lists::{LIST, get, jobs_at, room_at, small};
-use moves::moved::{Moved, list_change, permutation, sublist_change, sublist_swap};
-use rules::Plan;
+// The four moves: owner, positions, room for the new route, and a permutation's list.
+use crate::answers::moved;
+use crate::lists::{Args, LIST, Numbers};
+use moves::moved::{list_change, permutation, sublist_change, sublist_swap};
+use refresh::store::Store;
+use rules::{Owner, Plan, Refusal};
 
-// Which of the four.
-#[derive(Clone, Copy)]
-pub(crate) enum Kind {
-    Change,
-    Sublist,
-    Swap,
-    Permute,
+pub(crate) fn change(store: Store, args: &mut Args, out: &mut Numbers) -> Result<(), Refusal> {
+    let mut route = [0u32; Plan::ENTRIES];
+    let owner = Owner(args.number());
+    let a = args.number();
+    let b = args.number();
+    let room = args.room();
+    let m = list_change(store, owner, a, b, &mut route[..room])?;
+    moved(out, m, &route);
+    Ok(())
 }
 
-fn answer(m: Moved, list: &[u32], out: &mut [i64]) -> usize {
-    match m {
-        Moved::Refused(r) => refused(out, r),
-        Moved::Is(k, quick, full) => moved(out, quick, full, list, k),
-    }
+pub(crate) fn sublist(store: Store, args: &mut Args, out: &mut Numbers) -> Result<(), Refusal> {
+    let mut route = [0u32; Plan::ENTRIES];
+    let owner = Owner(args.number());
+    let a = args.number();
+    let b = args.number();
+    let d = args.number();
+    let room = args.room();
+    let m = sublist_change(store, owner, a, b, d, &mut route[..room])?;
+    moved(out, m, &route);
+    Ok(())
 }
 
-fn number(args: &[i64], i: usize) -> u32 {
-    small(get(args, i))
+pub(crate) fn swap(store: Store, args: &mut Args, out: &mut Numbers) -> Result<(), Refusal> {
+    let mut route = [0u32; Plan::ENTRIES];
+    let owner = Owner(args.number());
+    let a = args.number();
+    let b = args.number();
+    let d = args.number();
+    let e = args.number();
+    let room = args.room();
+    let m = sublist_swap(store, owner, a, b, d, e, &mut route[..room])?;
+    moved(out, m, &route);
+    Ok(())
 }
 
-// Where the room for the new route stands: behind a move's positions.
-fn room_place(kind: Kind) -> usize {
-    match kind {
-        Kind::Change => 3,
-        Kind::Sublist => 4,
-        Kind::Swap => 5,
-        Kind::Permute => 3,
-    }
-}
-
-fn change(
-    base: &[u32],
-    spans: &[u64],
-    edges: &[u16],
-    routes: &[u16],
-    times: &[u64],
-    args: &[i64],
-    list: &mut [u32],
-) -> Moved {
-    let owner = owner_of(args);
-    let a = number(args, 1);
-    let b = number(args, 2);
-    list_change(base, spans, edges, routes, times, owner, a, b, list)
-}
-
-fn sublist(
-    base: &[u32],
-    spans: &[u64],
-    edges: &[u16],
-    routes: &[u16],
-    times: &[u64],
-    args: &[i64],
-    list: &mut [u32],
-) -> Moved {
-    let owner = owner_of(args);
-    let a = number(args, 1);
-    let b = number(args, 2);
-    let d = number(args, 3);
-    sublist_change(base, spans, edges, routes, times, owner, a, b, d, list)
-}
-
-fn swap(
-    base: &[u32],
-    spans: &[u64],
-    edges: &[u16],
-    routes: &[u16],
-    times: &[u64],
-    args: &[i64],
-    list: &mut [u32],
-) -> Moved {
-    let owner = owner_of(args);
-    let a = number(args, 1);
-    let b = number(args, 2);
-    let d = number(args, 3);
-    let e = number(args, 4);
-    sublist_swap(base, spans, edges, routes, times, owner, a, b, d, e, list)
-}
-
-fn permute(
-    base: &[u32],
-    spans: &[u64],
-    edges: &[u16],
-    routes: &[u16],
-    times: &[u64],
-    args: &[i64],
-    list: &mut [u32],
-) -> Moved {
+pub(crate) fn permute(store: Store, args: &mut Args, out: &mut Numbers) -> Result<(), Refusal> {
+    let mut route = [0u32; Plan::ENTRIES];
     let mut by = [0u32; LIST];
-    let n = jobs_at(args, 4, &mut by);
-    let owner = owner_of(args);
-    let a = number(args, 1);
-    let b = number(args, 2);
-    permutation(
-        base,
-        spans,
-        edges,
-        routes,
-        times,
-        owner,
-        a,
-        b,
-        &by[..n],
-        list,
-    )
-}
-
-fn asked(
-    kind: Kind,
-    base: &[u32],
-    spans: &[u64],
-    edges: &[u16],
-    routes: &[u16],
-    times: &[u64],
-    args: &[i64],
-    list: &mut [u32],
-) -> Moved {
-    match kind {
-        Kind::Change => change(base, spans, edges, routes, times, args, list),
-        Kind::Sublist => sublist(base, spans, edges, routes, times, args, list),
-        Kind::Swap => swap(base, spans, edges, routes, times, args, list),
-        Kind::Permute => permute(base, spans, edges, routes, times, args, list),
-    }
-}
-
-pub(crate) fn make(
-    kind: Kind,
-    base: &[u32],
-    spans: &[u64],
-    edges: &[u16],
-    routes: &[u16],
-    times: &[u64],
-    args: &[i64],
-    out: &mut [i64],
-) -> usize {
-    let mut list = [0u32; Plan::ENTRIES];
-    let room = room_at(args, room_place(kind));
-    let m = asked(
-        kind,
-        base,
-        spans,
-        edges,
-        routes,
-        times,
-        args,
-        &mut list[..room],
-    );
-    answer(m, &list, out)
+    let owner = Owner(args.number());
+    let a = args.number();
+    let b = args.number();
+    let room = args.room();
+    let n = args.list(&mut by);
+    let m = permutation(store, owner, a, b, &by[..n], &mut route[..room])?;
+    moved(out, m, &route);
+    Ok(())
 }
