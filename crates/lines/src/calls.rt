@@ -29,7 +29,7 @@ fn narrow_all(numbers: &[u64], list: &mut [u32])
     }
 }
 
-// `put O` and entries. More entries than the library takes reach it as they are.
+// `put O` and entries. More entries than the library takes reach it as they are. Five slices, not a `Store`: a put lends three of them mutably, a cut one.
 fn put(
     base: &[u32],
     spans: &[u64],

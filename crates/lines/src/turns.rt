@@ -18,7 +18,7 @@ pub struct Turn {
     pub bytes: usize,
 }
 
-// How many bytes a line without its LF answers, if it fits.
+// How many bytes a line without its LF answers, if it fits. Five slices, not a `Store`: a line may change three of them.
 fn answered(
     line: &[u8],
     owners: u32,
