@@ -55,6 +55,7 @@ fn has_long(durations: &[u64]) -> bool
 }
 
 // A tail is no job, or the tails fall.
+// A `for`: each tail is compared with a bound and with the tail before it, in one pass.
 fn bad_from(from: &[u32], n: u32) -> bool
     ensures { result ≡ bad_after n 0 from.now }
 {
@@ -164,6 +165,7 @@ fn fill(
     first_score(&base[..], &spans[..], &edges[..], &routes[..], times, plan)
 }
 
+// Five slices, and no struct of them: each is lent to be written, in a step of its own.
 pub fn load(
     base: &mut [u32],
     spans: &mut [u64],

@@ -89,6 +89,7 @@ fn rescore(
     })
 }
 
+// Five slices, and no struct of them: three are lent to be written, the others to be read.
 pub fn put(
     base: &[u32],
     spans: &[u64],

@@ -5,6 +5,7 @@ ghost use Rattle.stores.specs.Says.{says_ended};
 
 use rules::{Plan, Refusal};
 
+// Five slices, and no struct of them: one is lent to be written, the others to be read.
 pub fn reset(
     base: &mut [u32],
     spans: &[u64],

@@ -7,6 +7,7 @@ ghost use Rattle.stores.specs.Says.{says_ended};
 use crate::header::opened;
 use rules::{Owner, Plan, Refusal};
 
+// Five slices, and no struct of them: one is lent to be written, the others to be read.
 pub fn retract(
     base: &[u32],
     spans: &[u64],
