@@ -5,13 +5,14 @@ ghost use Rattle.refresh.specs.Loads.{loading};
 ghost use Rattle.stores.specs.Promise.{slices};
 ghost use Rattle.capi.specs.Numbers.{Answers};
 
-use crate::numbers::{NUMS, TOLD, changed, counted, ended, judged, scored, started};
-use refresh::load::load;
+use crate::numbers::{NUMS, TOLD, changed, counted, ended, judged, listed, scored};
+use refresh::load::{Loading, load};
 use refresh::put::put;
 use refresh::reported::starts;
 use refresh::reset::reset;
 use refresh::retract::retract;
 use refresh::score::score;
+use refresh::store::Store;
 use refresh::verdict::verdict;
 use rules::Owner;
 
@@ -36,12 +37,15 @@ pub extern "C" fn notekarip_load(
         (slices base.new spans.new edges.new routes.new times.new)
         [] [] nums.old nums.new [] [] result }
 {
-    scored(
-        load(
-            base, spans, edges, routes, times, jobs, owners, durations, expected, from, to,
-        ),
-        nums,
-    )
+    let what = Loading {
+        jobs,
+        owners,
+        durations,
+        expected,
+        from,
+        to,
+    };
+    scored(load(base, spans, edges, routes, times, what), nums)
 }
 
 // The store is not loaded any more.
@@ -125,7 +129,14 @@ pub extern "C" fn notekarip_score(
         (slices base.now spans.now edges.now routes.now times.now)
         [] [] nums.old nums.new told.old told.new result }
 {
-    counted(score(base, spans, edges, routes, times), nums, told)
+    let store = Store {
+        base,
+        spans,
+        edges,
+        routes,
+        times,
+    };
+    counted(score(store), nums, told)
 }
 
 // The shown line-up, or the shown cycle.
@@ -144,7 +155,14 @@ pub extern "C" fn notekarip_verdict(
         (slices base.now spans.now edges.now routes.now times.now)
         out.old out.new [] [] told.old told.new result }
 {
-    judged(verdict(base, spans, edges, routes, times, out), told)
+    let store = Store {
+        base,
+        spans,
+        edges,
+        routes,
+        times,
+    };
+    judged(verdict(store, out), told)
 }
 
 // The starts.
@@ -163,5 +181,12 @@ pub extern "C" fn notekarip_starts(
         (slices base.now spans.now edges.now routes.now times.now)
         out.old out.new [] [] told.old told.new result }
 {
-    started(starts(base, spans, edges, routes, times, out), told)
+    let store = Store {
+        base,
+        spans,
+        edges,
+        routes,
+        times,
+    };
+    listed(starts(store, out), told)
 }

@@ -2,8 +2,9 @@
 ghost use Rattle.stores.specs.Promise.{slices};
 ghost use Rattle.capi.specs.Numbers.{AnswersBlocks};
 
-use crate::numbers::{TOLD, blocked};
+use crate::numbers::{TOLD, listed};
 use moves::blocks;
+use refresh::store::Store;
 use rules::Block;
 
 // The blocks of a list of owners, as records.
@@ -23,6 +24,12 @@ pub extern "C" fn notekarip_blocks(
         (slices base.now spans.now edges.now routes.now times.now)
         out.old out.new told.old told.new result }
 {
-    let answer = blocks(base, spans, edges, routes, times, owners, out);
-    blocked(answer, told)
+    let store = Store {
+        base,
+        spans,
+        edges,
+        routes,
+        times,
+    };
+    listed(blocks(store, owners, out), told)
 }

@@ -7,6 +7,7 @@ ghost use Rattle.capi.specs.Numbers.{Answers};
 
 use crate::numbers::{TOLD, moved};
 use moves::moved::{list_change, permutation, sublist_change, sublist_swap};
+use refresh::store::Store;
 use rules::Owner;
 
 // A job to another place of its route.
@@ -28,20 +29,14 @@ pub extern "C" fn notekarip_list_change(
         (slices base.now spans.now edges.now routes.now times.now)
         out.old out.new [] [] told.old told.new result }
 {
-    moved(
-        list_change(
-            base,
-            spans,
-            edges,
-            routes,
-            times,
-            Owner(owner),
-            source,
-            dest,
-            out,
-        ),
-        told,
-    )
+    let store = Store {
+        base,
+        spans,
+        edges,
+        routes,
+        times,
+    };
+    moved(list_change(store, Owner(owner), source, dest, out), told)
 }
 
 // A part of a route to another place.
@@ -64,19 +59,15 @@ pub extern "C" fn notekarip_sublist_change(
         (slices base.now spans.now edges.now routes.now times.now)
         out.old out.new [] [] told.old told.new result }
 {
+    let store = Store {
+        base,
+        spans,
+        edges,
+        routes,
+        times,
+    };
     moved(
-        sublist_change(
-            base,
-            spans,
-            edges,
-            routes,
-            times,
-            Owner(owner),
-            start,
-            end,
-            dest,
-            out,
-        ),
+        sublist_change(store, Owner(owner), start, end, dest, out),
         told,
     )
 }
@@ -102,22 +93,14 @@ pub extern "C" fn notekarip_sublist_swap(
         (slices base.now spans.now edges.now routes.now times.now)
         out.old out.new [] [] told.old told.new result }
 {
-    moved(
-        sublist_swap(
-            base,
-            spans,
-            edges,
-            routes,
-            times,
-            Owner(owner),
-            a,
-            b,
-            c,
-            d,
-            out,
-        ),
-        told,
-    )
+    let store = Store {
+        base,
+        spans,
+        edges,
+        routes,
+        times,
+    };
+    moved(sublist_swap(store, Owner(owner), a, b, c, d, out), told)
 }
 
 // A part of a route in another order.
@@ -140,19 +123,15 @@ pub extern "C" fn notekarip_permutation(
         (slices base.now spans.now edges.now routes.now times.now)
         out.old out.new [] [] told.old told.new result }
 {
+    let store = Store {
+        base,
+        spans,
+        edges,
+        routes,
+        times,
+    };
     moved(
-        permutation(
-            base,
-            spans,
-            edges,
-            routes,
-            times,
-            Owner(owner),
-            start,
-            end,
-            list,
-            out,
-        ),
+        permutation(store, Owner(owner), start, end, list, out),
         told,
     )
 }

@@ -1,26 +1,21 @@
 // A reply in numbers. Each function but the helpers takes what a call of the layers beneath answered, writes its numbers into `nums` (a score)
 // and `told` (what else is said), and gives the call's answer for C.
-ghost use Rattle.std.specs.Prelude.{◌≡◌, List, ◌∷◌, [], ℕ};
+ghost use Rattle.std.specs.Prelude.{◌≡◌, ◌≤◌, List, ◌∷◌, [], ℕ, length, replicate};
 ghost use Rattle.std.proofs.lemmas.List.Edits.{sets};
 ghost use Rattle.rules.specs.declared.Block.{Block as Record};
 ghost use Rattle.rules.specs.Refusals.{number_of};
-ghost use Rattle.rules.specs.Reports.{visits_of};
 ghost use Rattle.rules.specs.Scores.{no_change};
 ghost use Rattle.stores.specs.Says.{says_scored, says_counted, says_ended, says_started};
 ghost use Rattle.refresh.specs.Changes.{says_changed};
 ghost use Rattle.refresh.specs.Shows.{says_verdict};
 ghost use Rattle.moves.specs.Calls.{says_moved};
 ghost use Rattle.blocks.specs.Promise.{says_blocked};
-ghost use Rattle.capi.specs.Numbers.{mark, parts_of, report_in, Written};
+ghost use Rattle.capi.specs.Numbers.{parts_of, Written};
 
-use blocks::blocks::Blocked;
 use moves::moved::Moved;
-use refresh::put::Changed;
-use refresh::reported::Started;
-use refresh::reset::Ended;
-use refresh::score::{Counted, Scored};
+use refresh::put::Change;
 use refresh::verdict::Judged;
-use rules::{Refusal, Report, Score};
+use rules::{Refusal, Score};
 
 // The places of a score, and of what else is told.
 pub const NUMS: usize = 2;
@@ -31,17 +26,15 @@ pub const TOLD: usize = 3;
 fn code(r: Refusal) -> u32
     ensures { result ≡ number_of r }
 {
-    r.number() as u32
+    u32::from(r.number())
 }
 
 // A score or a score change.
 fn write(nums: &mut [i64; NUMS], s: Score) -> u32
     ensures { (result ≡ 0) × (nums.new ≡ sets nums.old 0 (parts_of s)) }
 {
-    let hard = s.hard;
-    let soft = s.soft;
-    nums[0] = hard;
-    nums[1] = soft;
+    nums[0] = s.hard;
+    nums[1] = s.soft;
     0
 }
 
@@ -49,146 +42,105 @@ fn write(nums: &mut [i64; NUMS], s: Score) -> u32
 fn refuse(nums: &mut [i64; NUMS], r: Refusal) -> u32
     ensures { (result ≡ number_of r) × (nums.new ≡ sets nums.old 0 (parts_of no_change)) }
 {
-    nums[0] = 0;
-    nums[1] = 0;
+    write(nums, Score { hard: 0, soft: 0 });
     code(r)
 }
 
-fn tell(told: &mut [u64; TOLD], a: u64) -> u32
-    ensures { (result ≡ 0) × (told.new ≡ sets told.old 0 (a ∷ [])) }
+// What else is told, from the first place on.
+fn tell(told: &mut [u64; TOLD], row: &[u64]) -> u32
+    requires { length row.now ≤ 3 }
+    ensures { (result ≡ 0) × (told.new ≡ sets told.old 0 row.now) }
 {
-    told[0] = a;
-    0
-}
-
-fn tell_two(told: &mut [u64; TOLD], a: u64, b: u64) -> u32
-    ensures { (result ≡ 0) × (told.new ≡ sets told.old 0 (a ∷ b ∷ [])) }
-{
-    told[0] = a;
-    told[1] = b;
-    0
-}
-
-// What a put did to the starts.
-fn kind(report: Report) -> u64
-    ensures { result ≡ report_in report }
-{
-    match report {
-        Report::Skipped => 0,
-        Report::Full => 1,
-        Report::CycleFound => 2,
-        Report::Incremental(_) => 3,
-    }
-}
-
-// And the visits of its walk.
-fn tell_report(told: &mut [u64; TOLD], report: Report) -> u32
-    ensures { (result ≡ 0) × (told.new ≡ sets told.old 0 (report_in report ∷ visits_of report ∷ [])) }
-{
-    told[0] = kind(report);
-    told[1] = report.visits() as u64;
-    0
-}
-
-fn bit(b: bool) -> u64
-    ensures { result ≡ mark b }
-{
-    if b { 1 } else { 0 }
-}
-
-// Both verdicts on a move, and the length of the new route.
-fn tell_move(told: &mut [u64; TOLD], quick: bool, full: bool, k: u64) -> u32
-    ensures { (result ≡ 0) × (told.new ≡ sets told.old 0 (mark quick ∷ mark full ∷ k ∷ [])) }
-{
-    told[0] = bit(quick);
-    told[1] = bit(full);
-    told[2] = k;
+    told[..row.len()].copy_from_slice(row);
     0
 }
 
 // Load.
-pub fn scored(answer: Scored, nums: &mut [i64; NUMS]) -> u32
+pub fn scored(answer: Result<Score, Refusal>, nums: &mut [i64; NUMS]) -> u32
     ensures { Written nums.old nums.new [] [] result (says_scored answer) }
 {
     match answer {
-        Scored::Refused(r) => refuse(nums, r),
-        Scored::Is(s) => write(nums, s),
+        Ok(s) => write(nums, s),
+        Err(r) => refuse(nums, r),
     }
 }
 
 // Reset and retract.
-pub fn ended(answer: Ended, nums: &mut [i64; NUMS]) -> u32
+pub fn ended(answer: Result<(), Refusal>, nums: &mut [i64; NUMS]) -> u32
     ensures { Written nums.old nums.new [] [] result (says_ended answer) }
 {
     match answer {
-        Ended::Refused(r) => refuse(nums, r),
-        Ended::Fine => write(nums, Score { hard: 0, soft: 0 }),
+        Ok(()) => write(nums, Score { hard: 0, soft: 0 }),
+        Err(r) => refuse(nums, r),
     }
 }
 
 // Put.
-pub fn changed(answer: Changed, nums: &mut [i64; NUMS], told: &mut [u64; TOLD]) -> u32
+pub fn changed(
+    answer: Result<Change, Refusal>,
+    nums: &mut [i64; NUMS],
+    told: &mut [u64; TOLD],
+) -> u32
     ensures { Written nums.old nums.new told.old told.new result (says_changed answer) }
 {
     match answer {
-        Changed::Refused(r) => refuse(nums, r),
-        Changed::By(s, report) => {
-            write(nums, s);
-            tell_report(told, report)
+        Ok(change) => {
+            write(nums, change.score);
+            let report = change.report;
+            tell(told, &[report.kind(), u64::from(report.visits())])
         }
+        Err(r) => refuse(nums, r),
     }
 }
 
 // Score.
-pub fn counted(answer: Counted, nums: &mut [i64; NUMS], told: &mut [u64; TOLD]) -> u32
+pub fn counted(
+    answer: Result<(Score, u64), Refusal>,
+    nums: &mut [i64; NUMS],
+    told: &mut [u64; TOLD],
+) -> u32
     ensures { Written nums.old nums.new told.old told.new result (says_counted answer) }
 {
     match answer {
-        Counted::Refused(r) => refuse(nums, r),
-        Counted::Is(s, k) => {
+        Ok((s, k)) => {
             write(nums, s);
-            tell(told, k)
+            tell(told, &[k])
         }
+        Err(r) => refuse(nums, r),
     }
 }
 
 // Verdict.
-pub fn judged(answer: Judged, told: &mut [u64; TOLD]) -> u32
+pub fn judged(answer: Result<Judged, Refusal>, told: &mut [u64; TOLD]) -> u32
     ensures { (out : List ℕ) → Written [] [] told.old told.new result (says_verdict out answer) }
 {
     match answer {
-        Judged::Refused(r) => code(r),
-        Judged::LineUp(k) => tell_two(told, 0, k as u64),
-        Judged::Cycle(k) => tell_two(told, 1, k as u64),
+        Ok(Judged::LineUp(k)) => tell(told, &[0, k as u64]),
+        Ok(Judged::Cycle(k)) => tell(told, &[1, k as u64]),
+        Err(r) => code(r),
     }
 }
 
-// Starts.
-pub fn started(answer: Started, told: &mut [u64; TOLD]) -> u32
-    ensures { (out : List ℕ) → Written [] [] told.old told.new result (says_started out answer) }
+// Starts and blocks: how many.
+pub fn listed(answer: Result<usize, Refusal>, told: &mut [u64; TOLD]) -> u32
+    ensures started { (out : List ℕ) → Written [] [] told.old told.new result (says_started out answer) }
+    ensures blocked { (out : List Record) → Written [] [] told.old told.new result (says_blocked out answer) }
 {
     match answer {
-        Started::Refused(r) => code(r),
-        Started::All(k) => tell(told, k as u64),
+        Ok(k) => tell(told, &[k as u64]),
+        Err(r) => code(r),
     }
 }
 
-// Blocks.
-pub fn blocked(answer: Blocked, told: &mut [u64; TOLD]) -> u32
-    ensures { (out : List Record) → Written [] [] told.old told.new result (says_blocked out answer) }
-{
-    match answer {
-        Blocked::Refused(r) => code(r),
-        Blocked::Are(k) => tell(told, k as u64),
-    }
-}
-
-// A move.
-pub fn moved(answer: Moved, told: &mut [u64; TOLD]) -> u32
+// A move: both verdicts, and the length of the new route.
+pub fn moved(answer: Result<Moved, Refusal>, told: &mut [u64; TOLD]) -> u32
     ensures { (out : List ℕ) → Written [] [] told.old told.new result (says_moved out answer) }
 {
     match answer {
-        Moved::Refused(r) => code(r),
-        Moved::Is(k, quick, full) => tell_move(told, quick, full, k as u64),
+        Ok(m) => tell(
+            told,
+            &[u64::from(m.quick), u64::from(m.full), m.length as u64],
+        ),
+        Err(r) => code(r),
     }
 }

@@ -4,4 +4,4 @@ use Rattle.capi.proofs.calls.notekarip_starts.Goals as goal
 -- `notekarip_starts`. Assumes nothing.
 
 pub returns : goal.returns
-returns c = search (rules, c.started.ensures)
+returns c = search (rules, c.listed.ensures.started)

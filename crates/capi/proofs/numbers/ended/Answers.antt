@@ -5,8 +5,8 @@ use Rattle.capi.proofs.numbers.ended.Goals as goal
 
 -- `ended`. Assumes nothing.
 
-pub returns-in-Refused : goal.returns-in-Refused
-returns-in-Refused c = search (rules, says says_ended)
+pub returns-in-Ok : goal.returns-in-Ok
+returns-in-Ok c = search (rules, says says_ended)
 
-pub returns-in-Fine : goal.returns-in-Fine
-returns-in-Fine c = search (rules, says says_ended)
+pub returns-in-Err : goal.returns-in-Err
+returns-in-Err c = search (rules, says says_ended)

@@ -5,8 +5,8 @@ use Rattle.capi.proofs.numbers.scored.Goals as goal
 
 -- `scored`. Assumes nothing.
 
-pub returns-in-Refused : goal.returns-in-Refused
-returns-in-Refused c = search (rules, says says_scored)
+pub returns-in-Ok : goal.returns-in-Ok
+returns-in-Ok c = search (rules, says says_scored)
 
-pub returns-in-Is : goal.returns-in-Is
-returns-in-Is c = search (rules, says says_scored)
+pub returns-in-Err : goal.returns-in-Err
+returns-in-Err c = search (rules, says says_scored)
