@@ -19,6 +19,7 @@ use Rattle.probes.specs.Chains.{holds_of}
 use Rattle.probes.specs.Fulls.{OnGraph, on_edge, on_outs}
 use Rattle.probes.specs.Quicks.{Closes, Turns, Ways, turning}
 use Rattle.probes.proofs.Chaining.{below_at, job_before, neighbours_at, neighbours_drop}
+use Rattle.probes.specs.declared.chain.Chain.{Chain}
 
 -- ── the heads in turn ──
 
@@ -44,11 +45,11 @@ pub ruleset wading = (rules, wading_none, wading_next, wading_done)
 abbrev back_of : Graph → Graph
 back_of E u v = E v u
 
-pub record Spreading (e off plus : List ℕ) (v n head tail : ℕ) (q d : List ℕ) : Type 0 where
+pub record Spreading (e : List ℕ) (off plus : Chain) (v n head tail : ℕ) (q d : List ℕ) : Type 0 where
   pub short : tail ≤ most_jobs
   pub keeps : (m : Model) → OnGraph e off plus n m → Wave n (back_of (on_edge m off plus)) v (take tail q) head (at d)
 
-pub spreading_none : (e off plus : List ℕ) (v n : ℕ) → n ≤ most_jobs → v < n
+pub spreading_none : (e : List ℕ) (off plus : Chain) (v n : ℕ) → n ≤ most_jobs → v < n
     → Spreading e off plus v n 0 1 (set (replicate most_jobs 0) 0 v) (set (replicate most_jobs 0) v 1)
 spreading_none e off plus v n hn hv = record {
   short = omega arith;
@@ -59,7 +60,7 @@ spreading_none e off plus v n hn hv = record {
       (λ u hu ne. get_or-set_other (replicate most_jobs 0) v u 1 0 ne ∙ get_or-replicate {A = ℕ} most_jobs u 0 0 (omega arith)));
 }
 
-module _ {e off plus : List ℕ} {v n head tail : ℕ} {q d : List ℕ} (L : Spreading e off plus v n head tail q d) (lq : length q ≡ most_jobs) where
+module _ {e : List ℕ} {off plus : Chain} {v n head tail : ℕ} {q d : List ℕ} (L : Spreading e off plus v n head tail q d) (lq : length q ≡ most_jobs) where
   module _ (hh : head < tail) {x : ℕ} (ex : x ≡ get_or q head 0) where
     long : head < length (take tail q)
     long = let a = L.short in omega (arith, length-take tail q)
@@ -77,7 +78,7 @@ module _ {e off plus : List ℕ} {v n head tail : ℕ} {q d : List ℕ} (L : Spr
   pub dist : tail ≤ head → (m : Model) → OnGraph e off plus n m → Distances n (back_of (on_edge m off plus)) v (at d)
   dist h m G = waves.wave_done (L.keeps m G) (let a = L.short in omega (arith, length-take tail q))
 
-module _ {e off plus l : List ℕ} {v n head tail x y r : ℕ} {q d q' d' : List ℕ} (T : Meets l y n tail q d r q' d')
+module _ {e : List ℕ} {off plus : Chain} {l : List ℕ} {v n head tail x y r : ℕ} {q d q' d' : List ℕ} (T : Meets l y n tail q d r q' d')
     (L : Spreading e off plus v n head tail q d) (S : Sees e off plus x l) (ey : y ≡ (get_or d x 0 + 1) % 2 ^ 16) (ex : x ≡ get_or q head 0)
     (hh : head < tail) (hn : n ≤ most_jobs) (lq : length q ≡ most_jobs) where
   module _ (m : Model) (G : OnGraph e off plus n m) where
@@ -123,7 +124,7 @@ module _ {n : ℕ} {E : Graph} {v u : ℕ} {d : ℕ → ℕ} (D : Distances n (b
           let (m, S) = trail_back n (back_of E) hu L.is in
           lt-ltb 0 (suc k) (omega arith) ∙ sym ((leads_exactly n E v u hv hu).1 (m, S))
 
-pub spreading_done : {e off plus : List ℕ} {v n head tail u : ℕ} {q d : List ℕ} → Spreading e off plus v n head tail q d → length q ≡ most_jobs
+pub spreading_done : {e : List ℕ} {off plus : Chain} {v n head tail u : ℕ} {q d : List ℕ} → Spreading e off plus v n head tail q d → length q ≡ most_jobs
     → tail ≤ head → v < n → u < n → Ways e off plus v u n (ltb 0 (get_or d u 0))
 spreading_done {off = off} {plus = plus} L lq h hv hu = record { is = λ m G. (way_is {E = on_edge m off plus} (dist L lq h m G) hv hu) }
 
@@ -131,7 +132,7 @@ pub ruleset spreading = (rules, spreading_none, spreading_out, spreading_next, s
 
 -- ── the edges that come on, in turn ──
 
-module _ {e off plus : List ℕ} {u v n : ℕ} {b : Bool} (is : b ≡ holds_of plus u v) where
+module _ {e : List ℕ} {off plus : Chain} {u v n : ℕ} {b : Bool} (is : b ≡ holds_of plus u v) where
   pub closes_not : b ≡ false → Closes e off plus u v n false
   closes_not q = record { is = λ m G. rw (← is, q) }
 
@@ -139,13 +140,13 @@ module _ {e off plus : List ℕ} {u v n : ℕ} {b : Bool} (is : b ≡ holds_of p
   closes_way q W = record { is = λ m G. rw (← is, q) (W.is m G) }
 
 -- the loop: what is still to be tried decides; i is the place of the next head
-pub record Trying (e off plus jobs : List ℕ) (n i : ℕ) : Type 0 where
+pub record Trying (e : List ℕ) (off plus : Chain) (jobs : List ℕ) (n i : ℕ) : Type 0 where
   pub rest : (m : Model) → OnGraph e off plus n m → turning m off plus (drop (i - 1) jobs) n ≡ turning m off plus jobs n
 
-pub trying_none : (e off plus jobs : List ℕ) (n : ℕ) → Trying e off plus jobs n 1
+pub trying_none : (e : List ℕ) (off plus : Chain) (jobs : List ℕ) (n : ℕ) → Trying e off plus jobs n 1
 trying_none e off plus jobs n = record { rest = λ m G. refl }
 
-module _ {e off plus jobs : List ℕ} {n i : ℕ} (T : Trying e off plus jobs n i) (some : 1 ≤ i) where
+module _ {e : List ℕ} {off plus : Chain} {jobs : List ℕ} {n i : ℕ} (T : Trying e off plus jobs n i) (some : 1 ≤ i) where
   pub trying_done : length jobs ≤ i → Turns e off plus jobs n false
   unfolding turning
   trying_done h = record { is = λ m G. rw (neighbours_drop jobs (i - 1) (omega arith)) at (T.rest m G) }

@@ -7,30 +7,39 @@ use Rattle.rules.specs.Moves.{neighbours}
 use Rattle.rules.specs.Sizes.{most_entries, most_jobs}
 use Rattle.rules.proofs.Ranges.{and_true, same}
 use Rattle.probes.specs.Aheads.{Chained, links_left}
+use Rattle.probes.specs.declared.chain.Chain.{Chain}
 use Rattle.probes.specs.declared.chain.Leads.{Leads}
-use Rattle.probes.specs.Chains.{Falls, Links, Rule, along, always, heads_at, heads_of, holds_of, joined, links_at, nexts_at, set_length}
+use Rattle.probes.specs.Chains.{Falls, Links, Rule, along, always, blank, heads_of, holds_of, joined, links_at}
 
 -- ── where the edges lead ──
 
-pub falls_none : Falls 0 (replicate set_length 0)
+falls_none : Falls 0 blank
 falls_none = record {
-  long = length-replicate {A = ℕ} set_length 0;
-  first = λ u h. omega (arith, get_or-replicate {A = ℕ} set_length u 0 0 (omega arith));
-  next = λ j h. omega (arith, get_or-replicate {A = ℕ} set_length (nexts_at + j) 0 0 (omega arith));
+  firsts = length-replicate {A = ℕ} most_jobs 0;
+  nexts = length-replicate {A = ℕ} most_entries 0;
+  heads = length-replicate {A = ℕ} most_entries 0;
+  first = λ u h. omega (arith, get_or-replicate {A = ℕ} most_jobs u 0 0 h);
+  next = λ j h. omega (arith, get_or-replicate {A = ℕ} most_entries j 0 0 h);
 }
 
-pub falls_more : {k : ℕ} {c : List ℕ} → Falls k c → {n : ℕ} → k ≤ n → Falls n c
-falls_more F h = record { long = F.long; first = λ u l. omega (arith, F.first u l); next = F.next }
+pub falls_blank : {c : Chain} → c ≡ blank → Falls 0 c
+falls_blank e = rw e falls_none
 
-pub falls_lent : {k : ℕ} {c : List ℕ} → Falls k c → k < most_entries → Falls most_entries c
+pub falls_more : {k : ℕ} {c : Chain} → Falls k c → {n : ℕ} → k ≤ n → Falls n c
+falls_more F h = record { firsts = F.firsts; nexts = F.nexts; heads = F.heads; first = λ u l. omega (arith, F.first u l); next = F.next }
+
+pub falls_lent : {k : ℕ} {c : Chain} → Falls k c → k < most_entries → Falls most_entries c
 falls_lent F h = falls_more F (omega arith)
 
-module _ {n : ℕ} {c : List ℕ} (F : Falls n c) where
-  pub first_in : {u w : ℕ} → w ≡ u → u < most_jobs → w < length c
-  first_in q h = omega (arith, F.long)
+module _ {n : ℕ} {c : Chain} (F : Falls n c) where
+  pub first_in : {u w : ℕ} → w ≡ u → u < most_jobs → w < length c.first
+  first_in q h = omega (arith, F.firsts)
 
-  pub head_in : (j : ℕ) → j < most_entries → heads_at + j < length c
-  head_in j h = omega (arith, F.long)
+  pub next_in : {j : ℕ} → j < most_entries → j < length c.next
+  next_in h = omega (arith, F.nexts)
+
+  pub head_in : {j : ℕ} → j < most_entries → j < length c.head
+  head_in h = omega (arith, F.heads)
 
   -- more steps than places do not count
   along_enough : (f g at : ℕ) → at ≤ most_entries → at ≤ f → at ≤ g → along f c at ≡ along g c at
@@ -43,68 +52,65 @@ module _ {n : ℕ} {c : List ℕ} (F : Falls n c) where
   along_enough (suc f) (suc g) zero r h k = refl
   along_enough (suc f) (suc g) (suc j) r h k =
       let b = F.next j (omega arith) in
-      ap (λ (x : List ℕ). get_or c (heads_at + j) 0 ∷ x) (along_enough f g (get_or c (nexts_at + j) 0) (omega arith) (omega arith) (omega arith))
+      ap (λ (x : List ℕ). get_or c.head j 0 ∷ x) (along_enough f g (get_or c.next j 0) (omega arith) (omega arith) (omega arith))
 
-  links_suc : (j : ℕ) → j < most_entries → links_at c (suc j) ≡ get_or c (heads_at + j) 0 ∷ links_at c (get_or c (nexts_at + j) 0)
+  links_suc : (j : ℕ) → j < most_entries → links_at c (suc j) ≡ get_or c.head j 0 ∷ links_at c (get_or c.next j 0)
   unfolding along
   links_suc j h =
       let b = F.next j h in
-      ap (λ (x : List ℕ). get_or c (heads_at + j) 0 ∷ x) (along_enough j (get_or c (nexts_at + j) 0) (get_or c (nexts_at + j) 0) (omega arith) b (omega arith))
+      ap (λ (x : List ℕ). get_or c.head j 0 ∷ x) (along_enough j (get_or c.next j 0) (get_or c.next j 0) (omega arith) b (omega arith))
 
   -- the first of them, and the rest
   pub links_cons : {at : ℕ} → 0 < at → at ≤ most_entries
-      → links_at c at ≡ get_or c (heads_at + (at - 1)) 0 ∷ links_at c (get_or c (nexts_at + (at - 1)) 0)
+      → links_at c at ≡ get_or c.head (at - 1) 0 ∷ links_at c (get_or c.next (at - 1) 0)
   links_cons {at} h r =
       let e : at ≡ suc (at - 1) = omega arith in
       ap (λ (x : ℕ). links_at c x) e ∙ links_suc (at - 1) (omega arith)
 
-  pub links_fall : {at x : ℕ} → x ≡ get_or c (nexts_at + (at - 1)) 0 → 0 < at → at ≤ most_entries → x < at
+  pub links_fall : {at x : ℕ} → x ≡ get_or c.next (at - 1) 0 → 0 < at → at ≤ most_entries → x < at
   links_fall {at} e h r = let b = F.next (at - 1) (omega arith) in omega arith
 
 -- ── one more edge ──
 
-module _ {k u : ℕ} (v : ℕ) {c : List ℕ} (F : Falls k c) (hk : k < most_entries) (hu : u < most_jobs) where
-  -- the words after each store
-  abbrev one : List ℕ
-  one = set c (nexts_at + k) (get_or c u 0)
+module _ {k u : ℕ} (v : ℕ) {c : Chain} (F : Falls k c) (hk : k < most_entries) (hu : u < most_jobs) where
+  abbrev after : Chain
+  after = record { first = set c.first u (k + 1); next = set c.next k (get_or c.first u 0); head = set c.head k v }
 
-  abbrev two : List ℕ
-  two = set one (heads_at + k) v
+  -- the words that are written, and the others
+  first_at : get_or after.first u 0 ≡ suc k
+  first_at = get_or-set_same c.first u (k + 1) 0 (omega (arith, F.firsts)) ∙ add-one k
 
-  abbrev after : List ℕ
-  after = set two u (k + 1)
+  first_else : (w : ℕ) → (w ≡ u → ⊥) → get_or after.first w 0 ≡ get_or c.first w 0
+  first_else w e = get_or-set_other c.first u w (k + 1) 0 e
 
-  two_length : length two ≡ set_length
-  two_length = simp length-set F.long
+  next_at : get_or after.next k 0 ≡ get_or c.first u 0
+  next_at = get_or-set_same c.next k (get_or c.first u 0) 0 (omega (arith, F.nexts))
 
-  -- a place that is not written
-  else_at : (p : ℕ) → (p ≡ u → ⊥) → (p ≡ nexts_at + k → ⊥) → (p ≡ heads_at + k → ⊥) → get_or after p 0 ≡ get_or c p 0
-  else_at p a b d = get_or-set_other two u p (k + 1) 0 a ∙ get_or-set_other one (heads_at + k) p v 0 d ∙ get_or-set_other c (nexts_at + k) p (get_or c u 0) 0 b
+  next_else : (j : ℕ) → (j ≡ k → ⊥) → get_or after.next j 0 ≡ get_or c.next j 0
+  next_else j e = get_or-set_other c.next k j (get_or c.first u 0) 0 e
 
-  first_at : get_or after u 0 ≡ suc k
-  first_at = get_or-set_same two u (k + 1) 0 (omega (arith, two_length)) ∙ add-one k
+  head_at : get_or after.head k 0 ≡ v
+  head_at = get_or-set_same c.head k v 0 (omega (arith, F.heads))
 
-  next_at : get_or after (nexts_at + k) 0 ≡ get_or c u 0
-  next_at =
-      get_or-set_other two u (nexts_at + k) (k + 1) 0 (λ q. omega arith)
-      ∙ get_or-set_other one (heads_at + k) (nexts_at + k) v 0 (λ q. omega arith)
-      ∙ get_or-set_same c (nexts_at + k) (get_or c u 0) 0 (omega (arith, F.long))
-
-  head_at : get_or after (heads_at + k) 0 ≡ v
-  head_at =
-      get_or-set_other two u (heads_at + k) (k + 1) 0 (λ q. omega arith)
-      ∙ get_or-set_same one (heads_at + k) v 0 (simp length-set (omega (arith, F.long)))
+  head_else : (j : ℕ) → (j ≡ k → ⊥) → get_or after.head j 0 ≡ get_or c.head j 0
+  head_else j e = get_or-set_other c.head k j v 0 e
 
   link_falls : Falls (k + 1) after
-  link_falls = record { long = simp length-set F.long; first = λ w l. look w (same w u) l; next = λ j l. before j (same j k) l }
+  link_falls = record {
+    firsts = simp length-set F.firsts;
+    nexts = simp length-set F.nexts;
+    heads = simp length-set F.heads;
+    first = λ w l. look w (same w u) l;
+    next = λ j l. before j (same j k) l;
+  }
     where
-      look : (w : ℕ) → (w ≡ u) ⊎ (w ≡ u → ⊥) → w < most_jobs → get_or after w 0 ≤ k + 1
+      look : (w : ℕ) → (w ≡ u) ⊎ (w ≡ u → ⊥) → w < most_jobs → get_or after.first w 0 ≤ k + 1
       look w (inl e) l = rw (e, first_at) (omega arith)
-      look w (inr e) l = rw (else_at w e (λ q. omega arith) (λ q. omega arith)) (omega (arith, F.first w l))
+      look w (inr e) l = rw (first_else w e) (omega (arith, F.first w l))
 
-      before : (j : ℕ) → (j ≡ k) ⊎ (j ≡ k → ⊥) → j < most_entries → get_or after (nexts_at + j) 0 ≤ j
+      before : (j : ℕ) → (j ≡ k) ⊎ (j ≡ k → ⊥) → j < most_entries → get_or after.next j 0 ≤ j
       before j (inl e) l = rw (e, next_at) (F.first u hu)
-      before j (inr e) l = rw (else_at (nexts_at + j) (λ q. omega arith) (λ q. omega arith) (λ q. omega arith)) (F.next j l)
+      before j (inr e) l = rw (next_else j e) (F.next j l)
 
   -- the edges before place k do not see the one at k
   along_link : (f at : ℕ) → at ≤ k → along f after at ≡ along f c at
@@ -112,9 +118,9 @@ module _ {k u : ℕ} (v : ℕ) {c : List ℕ} (F : Falls k c) (hk : k < most_ent
   along_link zero at l = refl
   along_link (suc f) zero l = refl
   along_link (suc f) (suc j) l =
-      let e1 = else_at (nexts_at + j) (λ q. omega arith) (λ q. omega arith) (λ q. omega arith) in
-      let e2 = else_at (heads_at + j) (λ q. omega arith) (λ q. omega arith) (λ q. omega arith) in
-      rw (e1, e2, along_link f (get_or c (nexts_at + j) 0) (omega (arith, F.next j (omega arith))))
+      let e1 = next_else j (λ q. omega arith) in
+      let e2 = head_else j (λ q. omega arith) in
+      rw (e1, e2, along_link f (get_or c.next j 0) (omega (arith, F.next j (omega arith))))
 
   link_at : Links always ((u, v) ∷ []) (k + 1) c after
   unfolding always
@@ -123,11 +129,14 @@ module _ {k u : ℕ} (v : ℕ) {c : List ℕ} (F : Falls k c) (hk : k < most_ent
       look : (w : ℕ) → (w ≡ u) ⊎ (w ≡ u → ⊥) → w < most_jobs → heads_of after w ≡ cond (eqb w u && true) (v ∷ heads_of c w) (heads_of c w)
       look w (inl e) l =
           rw (eq-eqb w u e, e, first_at)
-          (links_suc link_falls k hk ∙ rw (head_at, next_at) (ap (λ (x : List ℕ). v ∷ x) (along_link (get_or c u 0) (get_or c u 0) (F.first u hu))))
+          (links_suc link_falls k hk
+          ∙ rw (head_at, next_at) (ap (λ (x : List ℕ). v ∷ x) (along_link (get_or c.first u 0) (get_or c.first u 0) (F.first u hu))))
       look w (inr e) l =
-          rw (ne_eqb w u e, else_at w e (λ q. omega arith) (λ q. omega arith)) (along_link (get_or c w 0) (get_or c w 0) (F.first w l))
+          rw (ne_eqb w u e, first_else w e) (along_link (get_or c.first w 0) (get_or c.first w 0) (F.first w l))
 
-  pub link_one : (w : ℕ) → w ≡ u → Links always ((u, v) ∷ []) (k + 1) c (set (set (set c (nexts_at + k) (get_or c w 0)) (heads_at + k) v) w (k + 1))
+  pub link_one : (w : ℕ) → w ≡ u
+      → Links always ((u, v) ∷ []) (k + 1) c
+      (record { first = set c.first w (k + 1); next = set c.next k (get_or c.first w 0); head = set c.head k v })
   link_one w e = rw e link_at
 
 -- ── one after the other ──
@@ -141,16 +150,16 @@ module _ {s : Leads} (C : Chained s) where
     some : 0 < s.at
     some = omega arith
 
-    pub links_first : {x : ℕ} → x ≡ get_or s.set.now (nexts_at + (s.at - 1)) 0
-        → links_left s ≡ get_or s.set.now (heads_at + (s.at - 1)) 0 ∷ links_left (record s { at = x })
+    pub links_first : {x : ℕ} → x ≡ get_or s.set.now.next (s.at - 1) 0
+        → links_left s ≡ get_or s.set.now.head (s.at - 1) 0 ∷ links_left (record s { at = x })
     unfolding links_left
-    links_first e = links_cons C.falls some C.near ∙ ap (λ (l : List ℕ). get_or s.set.now (heads_at + (s.at - 1)) 0 ∷ l) (ap (links_at s.set.now) (sym e))
+    links_first e = links_cons C.falls some C.near ∙ ap (λ (l : List ℕ). get_or s.set.now.head (s.at - 1) 0 ∷ l) (ap (links_at s.set.now) (sym e))
 
-    pub links_near : {x : ℕ} → x ≡ get_or s.set.now (nexts_at + (s.at - 1)) 0 → x ≤ most_entries
+    pub links_near : {x : ℕ} → x ≡ get_or s.set.now.next (s.at - 1) 0 → x ≤ most_entries
     links_near e = let a = links_fall C.falls e some C.near in let b = C.near in omega arith
 
 -- where the edges from u begin
-pub links_begin : (c : Bor (List ℕ)) {a w u : ℕ} → a ≡ get_or c.now w 0 → w ≡ u → links_left (record { set = c; at = a }) ≡ heads_of c.now u
+pub links_begin : (c : Bor Chain) {a w u : ℕ} → a ≡ get_or c.now.first w 0 → w ≡ u → links_left (record { set = c; at = a }) ≡ heads_of c.now u
 unfolding links_left
 links_begin c e f = rw (e, f)
 
@@ -162,10 +171,10 @@ advances can rest c e = let shorter = ap length e in search rules
 -- ── the search ──
 
 -- the search has come to the edges that are left
-pub record Seeking (c : List ℕ) (u v : ℕ) (l : List ℕ) : Type 0 where
+pub record Seeking (c : Chain) (u v : ℕ) (l : List ℕ) : Type 0 where
   pub is : memb v l ≡ holds_of c u v
 
-module _ {c : List ℕ} {u v : ℕ} {l : List ℕ} (s : Seeking c u v l) where
+module _ {c : Chain} {u v : ℕ} {l : List ℕ} (s : Seeking c u v l) where
   pub seek_end : l ≡ [] → false ≡ holds_of c u v
   seek_end e = rw e at s.is
 
@@ -179,10 +188,10 @@ module _ {c : List ℕ} {u v : ℕ} {l : List ℕ} (s : Seeking c u v l) where
     pub seek_next : (w ≡ v → ⊥) → Seeking c u v l'
     seek_next miss = record { is = rw (ne_eqb v w (λ q. miss (sym q))) at there }
 
-pub seek_start : {c : List ℕ} {u v : ℕ} {l : List ℕ} → l ≡ heads_of c u → Seeking c u v l
+pub seek_start : {c : Chain} {u v : ℕ} {l : List ℕ} → l ≡ heads_of c u → Seeking c u v l
 seek_start {v = v} e = record { is = ap (memb v) e }
 
-pub ruleset chaining = (rules, first_in, head_in, links_fall, link_one, seek_start, seek_end, seek_hit, seek_next)
+pub ruleset chaining = (rules, first_in, next_in, head_in, links_fall, link_one, seek_start, seek_end, seek_hit, seek_next)
 
 -- ── the edges of a list of jobs in turn ──
 
@@ -211,16 +220,16 @@ pub neighbours_drop : (l : List ℕ) (i : ℕ) → length l ≤ i + 1 → neighb
 neighbours_drop l i h = neighbours_none (drop i l) (simp length-drop (omega arith))
 
 -- the loop: once the rest is linked, all is; i is the place of the next head
-pub record Linking {G : Type 0} (p : G → Rule) (jobs c₀ : List ℕ) (i : ℕ) (c : List ℕ) : Type 0 where
+pub record Linking {G : Type 0} (p : G → Rule) (jobs : List ℕ) (c₀ : Chain) (i : ℕ) (c : Chain) : Type 0 where
   pub within : i ≤ length jobs + 1
   pub falls : Falls (i - 1) c
-  pub rest : (c' : List ℕ) → Links p (neighbours (drop (i - 1) jobs)) most_entries c c' → Links p (neighbours jobs) most_entries c₀ c'
+  pub rest : (c' : Chain) → Links p (neighbours (drop (i - 1) jobs)) most_entries c c' → Links p (neighbours jobs) most_entries c₀ c'
 
-pub linking_none : {G : Type 0} (p : G → Rule) (jobs c : List ℕ) → Falls 0 c → Linking p jobs c 1 c
+pub linking_none : {G : Type 0} (p : G → Rule) (jobs : List ℕ) (c : Chain) → Falls 0 c → Linking p jobs c 1 c
 linking_none p jobs c F = record { within = omega arith; falls = F; rest = λ c' L. L }
 
-module _ {G : Type 0} {p : G → Rule} {jobs c₀ : List ℕ} {i : ℕ} {c : List ℕ} (L : Linking p jobs c₀ i c) (some : 1 ≤ i) where
-  pub linking_next : {c' : List ℕ} → Links p ((get_or jobs (i - 1) 0, get_or jobs i 0) ∷ []) (i - 1 + 1) c c' → i < length jobs
+module _ {G : Type 0} {p : G → Rule} {jobs : List ℕ} {c₀ : Chain} {i : ℕ} {c : Chain} (L : Linking p jobs c₀ i c) (some : 1 ≤ i) where
+  pub linking_next : {c' : Chain} → Links p ((get_or jobs (i - 1) 0, get_or jobs i 0) ∷ []) (i - 1 + 1) c c' → i < length jobs
       → Linking p jobs c₀ (i + 1) c'
   linking_next {c'} O h =
       let q : i + 1 - 1 ≡ i - 1 + 1 = omega arith in

@@ -17,6 +17,7 @@ use Rattle.starts.proofs.Lining as lining
 use Rattle.probes.specs.Aheads.{Sees}
 use Rattle.probes.specs.Fulls.{Begins, Lines, OnGraph, Tallied, on_edge, on_outs, pres_of}
 use Rattle.probes.proofs.Listing.{linked_pres, pres_length}
+use Rattle.probes.specs.declared.chain.Chain.{Chain}
 
 -- ── those to which none leads ──
 
@@ -68,21 +69,21 @@ pub ruleset telling = (rules, telling_none, telling_next, telling_done)
 -- ── the order is passed ──
 
 -- `tail` jobs are placed, and the first h of them passed
-pub record Lined (e off plus : List ℕ) (n h tail : ℕ) (o d : List ℕ) : Type 0 where
+pub record Lined (e : List ℕ) (off plus : Chain) (n h tail : ℕ) (o d : List ℕ) : Type 0 where
   pub short : tail ≤ most_jobs
   pub keeps : (m : Model) → OnGraph e off plus n m → Kahn (pres_of (on_outs m off plus) n) n (take tail o) h [] (at d)
 
-pub lined_none : {e off plus c : List ℕ} {n tail : ℕ} {o d : List ℕ} → Begins c n n tail o d → Tallied e off plus n n (replicate most_jobs 0) c
+pub lined_none : {e : List ℕ} {off plus : Chain} {c : List ℕ} {n tail : ℕ} {o d : List ℕ} → Begins c n n tail o d → Tallied e off plus n n (replicate most_jobs 0) c
     → n ≤ most_jobs → Lined e off plus n 0 tail o d
 lined_none {off = off} {plus = plus} B T hn = record {
   short = let a = B.short in omega arith;
   keeps = λ m G. B.keeps (on_outs m off plus) (λ w h. T.is m G (λ x l. get_or-replicate {A = ℕ} most_jobs x 0 0 l) w (omega arith));
 }
 
-on_linked : {e off plus : List ℕ} {n : ℕ} {m : Model} → OnGraph e off plus n m → Linked n (on_outs m off plus) (pres_of (on_outs m off plus) n)
+on_linked : {e : List ℕ} {off plus : Chain} {n : ℕ} {m : Model} → OnGraph e off plus n m → Linked n (on_outs m off plus) (pres_of (on_outs m off plus) n)
 on_linked {n = n} G = linked_pres n _ G.once G.low
 
-module _ {e off plus : List ℕ} {n head tail : ℕ} {o d : List ℕ} (L : Lined e off plus n head tail o d) (lo : length o ≡ most_jobs) where
+module _ {e : List ℕ} {off plus : Chain} {n head tail : ℕ} {o d : List ℕ} (L : Lined e off plus n head tail o d) (lo : length o ≡ most_jobs) where
   size : length (take tail o) ≡ tail
   size = length-take-le tail o (let a = L.short in omega arith)
 
@@ -120,7 +121,7 @@ module _ {e off plus : List ℕ} {n head tail : ℕ} {o d : List ℕ} (L : Lined
   pub lined_done : tail ≤ head → Lines e off plus n (eqb tail n)
   lined_done hh = record { is = λ m G. judged hh m G (test (eqb tail n)) }
 
-module _ {e off plus l : List ℕ} {n head tail u r : ℕ} {o d o' d' : List ℕ} (T : Tells l tail o d r o' d')
+module _ {e : List ℕ} {off plus : Chain} {l : List ℕ} {n head tail u r : ℕ} {o d o' d' : List ℕ} (T : Tells l tail o d r o' d')
     (L : Lined e off plus n head tail o d) (S : Sees e off plus u l) (eu : u ≡ get_or o head 0) (hh : head < tail) (hn : n ≤ most_jobs)
     (lo : length o ≡ most_jobs) where
   step : (m : Model) → OnGraph e off plus n m → Kahn (pres_of (on_outs m off plus) n) n (take r o') (suc head) [] (at d')

@@ -8,6 +8,7 @@ use Rattle.edges.specs.Edges.{Model}
 use Rattle.graphs.specs.Graph.{at}
 use Rattle.probes.specs.Aheads.{Sees}
 use Rattle.probes.specs.Fulls.{Bumps, OnGraph, Tallied, lead_to, on_outs}
+use Rattle.probes.specs.declared.chain.Chain.{Chain}
 
 -- ── one more edge to v ──
 
@@ -65,10 +66,10 @@ once_times w (v ∷ l) (a, o) = look (same w v) (once_times w l o)
     look (inl e) ih = let b : memb w l ≡ false = rw e a in let z : times_in w l ≡ 0 = rw b at ih in rw (eq-eqb w v e, z)
     look (inr e) ih = rw (ne_eqb w v e) (omega arith)
 
-pub tallied_none : (e off plus : List ℕ) (n : ℕ) (d : List ℕ) → Tallied e off plus n 0 d d
+pub tallied_none : (e : List ℕ) (off plus : Chain) (n : ℕ) (d : List ℕ) → Tallied e off plus n 0 d d
 tallied_none e off plus n d = record { is = λ m G z. z }
 
-pub tallied_next : {e off plus : List ℕ} {n u : ℕ} {d₀ d l d' : List ℕ} → Bumps l d d' → Tallied e off plus n u d₀ d
+pub tallied_next : {e : List ℕ} {off plus : Chain} {n u : ℕ} {d₀ d l d' : List ℕ} → Bumps l d d' → Tallied e off plus n u d₀ d
     → Sees e off plus u l → u < n → n ≤ most_jobs → Tallied e off plus n (u + 1) d₀ d'
 tallied_next {e} {off} {plus} {n} {u} {d₀} {d} {l} {d'} B T S hu hn = record { is = λ m G z w h. rw add-one (step m G z w h) }
   where
@@ -87,7 +88,7 @@ tallied_next {e} {off} {plus} {n} {u} {d₀} {d} {l} {d'} B T S hu hn = record {
         ticked true k = omega arith
         ticked false k = omega arith
 
-pub tallied_all : {e off plus : List ℕ} {n u : ℕ} {d₀ d : List ℕ} → Tallied e off plus n u d₀ d → u ≤ n → n ≤ u → Tallied e off plus n n d₀ d
+pub tallied_all : {e : List ℕ} {off plus : Chain} {n u : ℕ} {d₀ d : List ℕ} → Tallied e off plus n u d₀ d → u ≤ n → n ≤ u → Tallied e off plus n n d₀ d
 tallied_all {n = n} {u = u} T a b = let q : u ≡ n = omega arith in rw q at T
 
 pub ruleset tallying = (rules, tallied_none, tallied_next, tallied_all)

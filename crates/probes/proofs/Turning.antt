@@ -11,10 +11,11 @@ use Rattle.probes.specs.Chains.{Falls, Links, Rule, always, heads_of, holds_of}
 use Rattle.probes.specs.Gathered.{Held, comes_on, goes_off}
 use Rattle.probes.specs.Pairs.{Rising}
 use Rattle.probes.proofs.Chaining.{falls_lent, falls_more}
+use Rattle.probes.specs.declared.chain.Chain.{Chain}
 
 -- ── one edge ──
 
-module _ {G : Type 0} (p : G → Rule) (u v : ℕ) (c : List ℕ) {k : ℕ} where
+module _ {G : Type 0} (p : G → Rule) (u v : ℕ) (c : Chain) {k : ℕ} where
   edge_out : Falls k c → ((g : G) → p g u v (heads_of c u) ≡ false) → Links p ((u, v) ∷ []) (k + 1) c c
   edge_out F f = record { falls = falls_more F (omega arith); are = λ g w h. look g w (same w u) }
     where
@@ -22,7 +23,7 @@ module _ {G : Type 0} (p : G → Rule) (u v : ℕ) (c : List ℕ) {k : ℕ} wher
       look g w (inl e) = rw (eq-eqb w u e, e, f g)
       look g w (inr e) = rw (ne_eqb w u e)
 
-  edge_in : {c' : List ℕ} → Links always ((u, v) ∷ []) k c c' → ((g : G) → p g u v (heads_of c u) ≡ true) → Links p ((u, v) ∷ []) k c c'
+  edge_in : {c' : Chain} → Links always ((u, v) ∷ []) k c c' → ((g : G) → p g u v (heads_of c u) ≡ true) → Links p ((u, v) ∷ []) k c c'
   unfolding always
   edge_in L f = record { falls = L.falls; are = λ g w h. L.are tt w h ∙ look g w (same w u) }
     where
@@ -32,7 +33,7 @@ module _ {G : Type 0} (p : G → Rule) (u v : ℕ) (c : List ℕ) {k : ℕ} wher
       look g w (inr e) = rw (ne_eqb w u e)
 
 -- x and y are what the tests before answered
-module _ (from to new off : List ℕ) (k u v : ℕ) (F : Falls k off) (x : Bool) (ex : x ≡ holds_of new u v) where
+module _ (from to : List ℕ) (new off : Chain) (k u v : ℕ) (F : Falls k off) (x : Bool) (ex : x ≡ holds_of new u v) where
   pub off_there : x ≡ true → Links (goes_off from to new) ((u, v) ∷ []) (k + 1) off off
   unfolding goes_off
   off_there q = edge_out (goes_off from to new) u v off F (λ r. rw (← ex, q))
@@ -42,11 +43,11 @@ module _ (from to new off : List ℕ) (k u v : ℕ) (F : Falls k off) (x : Bool)
     unfolding goes_off
     off_fixed s = edge_out (goes_off from to new) u v off F (λ r. rw (← ex, q, ← ey r, s))
 
-    pub off_goes : y ≡ false → {c' : List ℕ} → Links always ((u, v) ∷ []) (k + 1) off c' → Links (goes_off from to new) ((u, v) ∷ []) (k + 1) off c'
+    pub off_goes : y ≡ false → {c' : Chain} → Links always ((u, v) ∷ []) (k + 1) off c' → Links (goes_off from to new) ((u, v) ∷ []) (k + 1) off c'
     unfolding goes_off
     off_goes s L = edge_in (goes_off from to new) u v off L (λ r. rw (← ex, q, ← ey r, s))
 
-module _ (e old plus : List ℕ) (k u v : ℕ) (F : Falls k plus) (x : Bool) (ex : x ≡ holds_of old u v) where
+module _ (e : List ℕ) (old plus : Chain) (k u v : ℕ) (F : Falls k plus) (x : Bool) (ex : x ≡ holds_of old u v) where
   pub on_there : x ≡ true → Links (comes_on e old) ((u, v) ∷ []) (k + 1) plus plus
   unfolding comes_on
   on_there q = edge_out (comes_on e old) u v plus F (λ h. rw (← ex, q))
@@ -64,7 +65,7 @@ module _ (e old plus : List ℕ) (k u v : ℕ) (F : Falls k plus) (x : Bool) (ex
       unfolding comes_on
       on_live r = edge_out (comes_on e old) u v plus F (λ h. rw (← ex, q, ← ey, s, alive h, r))
 
-      pub on_comes : z ≡ false → {c' : List ℕ} → Links always ((u, v) ∷ []) (k + 1) plus c' → Links (comes_on e old) ((u, v) ∷ []) (k + 1) plus c'
+      pub on_comes : z ≡ false → {c' : Chain} → Links always ((u, v) ∷ []) (k + 1) plus c' → Links (comes_on e old) ((u, v) ∷ []) (k + 1) plus c'
       unfolding comes_on
       on_comes r L = edge_in (comes_on e old) u v plus L (λ h. rw (← ex, q, ← ey, s, alive h, r))
 

@@ -1,5 +1,5 @@
 -- What is on, as the words hold it, is what the rules say is on: so the verdicts are the rules' own. Assumes nothing.
-use Rattle.std.proofs.Common.{◌≡◌, ℕ, ◌<◌, ◌≤◌, Bool, true, false, cond, not, ◌&&◌, ◌||◌, eqb, ◌⊎◌, List, [], ◌∷◌, ◌++◌, replicate, sym, subst, refl, ap, ◌∙◌, inl, inr, ⊎_elim, arith, eq-eqb, ne_eqb}
+use Rattle.std.proofs.Common.{◌≡◌, ℕ, ◌<◌, ◌≤◌, Bool, true, false, cond, not, ◌&&◌, ◌||◌, eqb, ◌⊎◌, List, [], ◌∷◌, ◌++◌, sym, subst, refl, ap, ◌∙◌, inl, inr, ⊎_elim, arith, eq-eqb, ne_eqb}
 use lib.ListN.{get_or-replicate}
 use borrow.Author.Tests.{not-true}
 use Rattle.rules.specs.Graphs.{Graph, Trail, end, go}
@@ -16,13 +16,14 @@ use Rattle.graphs.proofs.Bridge.{linked}
 use Rattle.graphs.proofs.Kahn.{memb_later, memb_self}
 use Rattle.starts.specs.Lines.{Lows}
 use Rattle.probes.specs.Aheads.{heads_on, staying}
-use Rattle.probes.specs.Chains.{Links, Rule, along, always, heads_of, holds_of, joined, set_length}
+use Rattle.probes.specs.Chains.{Links, Rule, along, always, blank, heads_of, holds_of, joined}
 use Rattle.probes.specs.Fulls.{OnGraph, on_edge, on_outs}
 use Rattle.probes.specs.Gathered.{comes_on, goes_off}
 use Rattle.probes.specs.Judges.{on_for, stays_for}
 use Rattle.probes.specs.Pairs.{Rising}
 use Rattle.probes.specs.Quicks.{closing, turning}
 use Rattle.probes.proofs.Listing.{keep_memb, keep_once}
+use Rattle.probes.specs.declared.chain.Chain.{Chain}
 
 -- ── the edges of a set ──
 
@@ -75,14 +76,11 @@ joined_once p w f ((a, b) ∷ l) m o = joined_once p w f l (cond (eqb w a && p a
     look (pass e) = rw e (f a b m (and_true {a = eqb w a} e).1, o)
 
 -- of a set that was empty
-abbrev blank : List ℕ
-blank = replicate set_length 0
-
 blank_heads : (w : ℕ) → w < most_jobs → heads_of blank w ≡ []
 unfolding along
-blank_heads w h = rw (get_or-replicate {A = ℕ} set_length w 0 0 (omega arith))
+blank_heads w h = rw (get_or-replicate {A = ℕ} most_jobs w 0 0 (omega arith))
 
-links_hold : {G : Type 0} {p : G → Rule} {l : List Pair} {k : ℕ} {c : List ℕ} → Links p l k blank c → (g : G) (q : Graph) (u v : ℕ) → u < most_jobs
+links_hold : {G : Type 0} {p : G → Rule} {l : List Pair} {k : ℕ} {c : Chain} → Links p l k blank c → (g : G) (q : Graph) (u v : ℕ) → u < most_jobs
     → ((v : ℕ) (m : List ℕ) → memb v m ≡ false → p g u v m ≡ q u v) → holds_of c u v ≡ occurs l u v && q u v
 links_hold {p = p} {l = l} L g q u v h by =
     ap (memb v) (L.are g u h ∙ ap (joined (p g) u l) (blank_heads u h)) ∙ joined_memb (p g) q u by l [] v
@@ -189,27 +187,27 @@ fresh_bool false false true x = refl
 fresh_bool false false false x = refl
 
 -- what the code has built of a move, of words that hold a model
-pub record Given (from to e old new : List ℕ) (n : ℕ) (off plus : List ℕ) (m : Model) : Type 0 where
+pub record Given (from to e old new : List ℕ) (n : ℕ) (off plus : Chain) (m : Model) : Type 0 where
   pub holds : Holds e m
   pub below : Below n m
   pub jobs : n ≤ most_jobs
   pub low : all_below n new ≡ true
   pub rising : Rising from
-  pub olds : List ℕ
+  pub olds : Chain
   pub olds_are : Links always (neighbours old) most_entries blank olds
-  pub news : List ℕ
+  pub news : Chain
   pub news_are : Links always (neighbours new) most_entries blank news
   pub off_are : Links (goes_off from to news) (neighbours old) most_entries blank off
   pub plus_are : Links (comes_on e olds) (neighbours new) most_entries blank plus
 
-module _ {from to e old new : List ℕ} {n : ℕ} {off plus : List ℕ} {m : Model} (G : Given from to e old new n off plus m) where
+module _ {from to e old new : List ℕ} {n : ℕ} {off plus : Chain} {m : Model} (G : Given from to e old new n off plus m) where
   near : {u : ℕ} → u < n → u < most_jobs
   near h = let a = G.jobs in omega arith
 
   abbrev fixed : Graph
   fixed = occurs (pair_up from to)
 
-  index_is : {l : List Pair} {c : List ℕ} → Links always l most_entries blank c → (u v : ℕ) → u < n → holds_of c u v ≡ occurs l u v
+  index_is : {l : List Pair} {c : Chain} → Links always l most_entries blank c → (u v : ℕ) → u < n → holds_of c u v ≡ occurs l u v
   unfolding always
   index_is {l} L u v hu = links_hold L tt (λ x y. true) u v (near hu) (λ v m x. refl) ∙ and_all (occurs l u v)
 

@@ -9,13 +9,14 @@ use Rattle.probes.specs.Seen.{stays}
 use Rattle.probes.specs.declared.chain.Leads.{Leads}
 use Rattle.probes.specs.declared.heads.Heads.{Heads}
 use Rattle.probes.specs.declared.view.View.{View}
+use Rattle.probes.specs.declared.chain.Chain.{Chain}
 
 -- of a list of heads of u those whose edge stays on
-abbrev pub staying : List ℕ → ℕ → List ℕ → List ℕ
+abbrev pub staying : Chain → ℕ → List ℕ → List ℕ
 staying off u l = keep (λ v. stays off u v) l
 
 -- of u, whose live heads are the row
-unfoldable pub heads_on : List ℕ → List ℕ → List ℕ → ℕ → List ℕ
+unfoldable pub heads_on : List ℕ → Chain → Chain → ℕ → List ℕ
 heads_on row off plus u = staying off u row ++ heads_of plus u
 
 -- the edges' words and two sets
@@ -45,5 +46,5 @@ unfoldable pub heads_left : Heads → List ℕ
 heads_left h = staying h.view.off.now h.u h.row.now ++ links_left h.plus
 
 -- those of u, in whatever model the words hold
-pub record Sees (e off plus : List ℕ) (u : ℕ) (l : List ℕ) : Type 0 where
+pub record Sees (e : List ℕ) (off plus : Chain) (u : ℕ) (l : List ℕ) : Type 0 where
   pub is : (m : Model) → Holds e m → l ≡ heads_on (out_of m u) off plus u

@@ -12,17 +12,18 @@ use Rattle.graphs.specs.Degrees.{Kahn}
 use Rattle.graphs.specs.Graph.{at}
 use Rattle.starts.specs.Lines.{Lows}
 use Rattle.probes.specs.Aheads.{heads_on}
+use Rattle.probes.specs.declared.chain.Chain.{Chain}
 
 -- of a job's edges in a model where they lead
-abbrev pub on_outs : Model → List ℕ → List ℕ → ℕ → List ℕ
+abbrev pub on_outs : Model → Chain → Chain → ℕ → List ℕ
 on_outs m off plus u = heads_on (out_of m u) off plus u
 
 -- the edges that are on
-abbrev pub on_edge : Model → List ℕ → List ℕ → Graph
+abbrev pub on_edge : Model → Chain → Chain → Graph
 on_edge m off plus = edge (on_outs m off plus)
 
 -- the edges' words and two sets stand for lists of heads of n jobs: none twice, and all below n
-pub record OnGraph (e off plus : List ℕ) (n : ℕ) (m : Model) : Type 0 where
+pub record OnGraph (e : List ℕ) (off plus : Chain) (n : ℕ) (m : Model) : Type 0 where
   pub holds : Holds e m
   pub once : (u : ℕ) → u < n → Once (on_outs m off plus u)
   pub low : (u : ℕ) → u < n → Lows n (on_outs m off plus u)
@@ -45,7 +46,7 @@ abbrev pub pres_of : (ℕ → List ℕ) → ℕ → ℕ → List ℕ
 pres_of out k w = keep (λ u. memb w (out u)) (down k)
 
 -- from 0 on, the edges of the first u jobs are counted
-pub record Tallied (e off plus : List ℕ) (n u : ℕ) (d₀ d : List ℕ) : Type 0 where
+pub record Tallied (e : List ℕ) (off plus : Chain) (n u : ℕ) (d₀ d : List ℕ) : Type 0 where
   pub is : (m : Model) → OnGraph e off plus n m → ((w : ℕ) → w < most_jobs → at d₀ w ≡ 0) → (w : ℕ) → w < most_jobs
       → at d w ≡ lead_to (on_outs m off plus) u w
 
@@ -56,5 +57,5 @@ pub record Begins (c : List ℕ) (n v tail : ℕ) (o d : List ℕ) : Type 0 wher
   pub short : tail ≤ v
   pub keeps : (out : ℕ → List ℕ) → ((w : ℕ) → w < n → at c w ≡ lead_to out n w) → Kahn (pres_of out n) v (take tail o) 0 [] (at d)
 
-pub record Lines (e off plus : List ℕ) (n : ℕ) (r : Bool) : Type 0 where
+pub record Lines (e : List ℕ) (off plus : Chain) (n : ℕ) (r : Bool) : Type 0 where
   pub is : (m : Model) → OnGraph e off plus n m → r ≡ is_some (order n (on_edge m off plus))

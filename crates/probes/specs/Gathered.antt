@@ -7,9 +7,10 @@ use Rattle.edges.specs.Edges.{Model, Holds}
 use Rattle.graphs.specs.Graph.{live}
 use Rattle.probes.specs.Chains.{Rule, holds_of}
 use Rattle.probes.specs.Pairs.{Rising}
+use Rattle.probes.specs.declared.chain.Chain.{Chain}
 
 -- "Removed: old neighbour edges that occur nowhere among the new", less the fixed ones
-unfoldable pub goes_off : (from to new : List ℕ) → Rising from → Rule
+unfoldable pub goes_off : (from to : List ℕ) (new : Chain) → Rising from → Rule
 goes_off from to new r u v m = not (holds_of new u v) && not (occurs (pair_up from to) u v)
 
 -- the words e hold a model
@@ -18,5 +19,5 @@ pub record Held (e : List ℕ) : Type 0 where
   pub holds : Holds e model
 
 -- "Added: the reverse", less the live ones, each once
-unfoldable pub comes_on : (e old : List ℕ) → Held e → Rule
+unfoldable pub comes_on : (e : List ℕ) (old : Chain) → Held e → Rule
 comes_on e old h u v m = not (holds_of old u v) && (not (memb v m) && not (live h.model u v))

@@ -9,12 +9,13 @@ use Rattle.probes.specs.Fulls.{OnGraph, on_edge}
 use Rattle.probes.specs.Pairs.{Rising}
 use Rattle.probes.specs.Quicks.{turning}
 use Rattle.probes.specs.declared.checks.Checked.{Checked}
+use Rattle.probes.specs.declared.chain.Chain.{Chain}
 
 abbrev pub verdicts : Bool → Bool → Checked
 verdicts q f = record { quick = q; full = f }
 
 -- of what is on, whatever it is
-pub record Both (e off plus jobs : List ℕ) (n : ℕ) (was : Bool) (r : Checked) : Type 0 where
+pub record Both (e : List ℕ) (off plus : Chain) (jobs : List ℕ) (n : ℕ) (was : Bool) (r : Checked) : Type 0 where
   pub is : (m : Model) → OnGraph e off plus n m
       → (was ≡ false → turning m off plus jobs n ≡ full_check n (on_edge m off plus))
       → (turning m off plus jobs n ≡ true → full_check n (on_edge m off plus) ≡ true)

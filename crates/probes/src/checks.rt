@@ -7,7 +7,7 @@ ghost use Rattle.rules.specs.Sizes.{edges_length, most_entries, most_jobs};
 ghost use Rattle.probes.specs.Aheads.{Views};
 ghost use Rattle.probes.specs.Judges.{Both, Checks};
 
-use crate::chain::{SET, index};
+use crate::chain::Chain;
 use crate::full::lines_up;
 use crate::quick::turns;
 use crate::sets::{turned_off, turned_on};
@@ -56,12 +56,12 @@ pub fn check(
         × (all_below n old.now ≡ true) × (all_below n new.now ≡ true) }
     ensures { Checks from.now to.now e.now old.now new.now n was result }
 {
-    let mut olds = [0u16; SET];
-    let mut news = [0u16; SET];
-    let mut off = [0u16; SET];
-    let mut plus = [0u16; SET];
-    index(old, &mut olds);
-    index(new, &mut news);
+    let mut olds = Chain::new();
+    let mut news = Chain::new();
+    let mut off = Chain::new();
+    let mut plus = Chain::new();
+    olds.index(old);
+    news.index(new);
     turned_off(from, to, old, &news, &mut off);
     turned_on(e, &olds, new, &mut plus);
     let view = View {

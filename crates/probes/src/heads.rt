@@ -6,7 +6,7 @@ ghost use Rattle.std.specs.Iterator.{YieldsFirst, item_count};
 ghost use Rattle.rules.specs.Sizes.{most_jobs};
 ghost use Rattle.probes.specs.Aheads.{Sees, Views, Walks, heads_left};
 
-use crate::chain::{Leads, leads_from};
+use crate::chain::Leads;
 use crate::view::{View, is_on};
 use edges::lists::successors;
 
@@ -49,6 +49,6 @@ pub fn heads_from(view: View<'_>, u: u16) -> Heads<'_>
         view,
         u,
         row: successors(view.live, usize::from(u)),
-        plus: leads_from(view.plus, u),
+        plus: view.plus.leads(u),
     }
 }

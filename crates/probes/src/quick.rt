@@ -8,7 +8,6 @@ ghost use Rattle.shown.specs.Distances.{Meets};
 ghost use Rattle.probes.specs.Aheads.{Views, Walks, heads_left};
 ghost use Rattle.probes.specs.Quicks.{Closes, Turns, Ways};
 
-use crate::chain::holds;
 use crate::heads::{Heads, heads_from};
 use crate::view::View;
 use rules::Plan;
@@ -58,7 +57,7 @@ fn closes(view: View, u: u16, v: u16, n: usize) -> bool
     requires { Views view × (n ≤ most_jobs) × (u < n) × (v < n) }
     ensures { Closes view.entry.live.now view.entry.off.now view.entry.plus.now u v n result }
 {
-    holds(view.plus, u, v) && leads(view, v, u, n)
+    view.plus.holds(u, v) && leads(view, v, u, n)
 }
 
 // Whether some cycle of what is on uses an edge that comes on, of those between neighbours.

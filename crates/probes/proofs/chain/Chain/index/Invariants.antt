@@ -1,6 +1,6 @@
 use Rattle.probes.specs.Chains.{always}
 use Rattle.probes.proofs.Chaining.{Linking}
-use Rattle.probes.proofs.chain.index.Given as goal
+use Rattle.probes.proofs.chain.Chain.index.Given as goal
 
 abbrev pub invariant-loop-i : goal.invariant-loop-i
-invariant-loop-i l = Linking always l.jobs l.initial.c l.i l.c
+invariant-loop-i l = Linking always l.jobs l.initial.self l.i l.self
