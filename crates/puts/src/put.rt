@@ -170,6 +170,8 @@ pub fn put(
         invalid: snap.invalid as u16,
         violated: snap.violations as u16,
     };
-    let heads = put_stops(r, e, owner, route, came, went, gone)?;
-    Ok(heads)
+    match put_stops(r, e, owner, route, came, went, gone) {
+        Ok(heads) => Ok(heads),
+        Err(Senseless) => Err(Refusal::BadStore),
+    }
 }

@@ -199,16 +199,6 @@ impl Refusal {
 #[derive(Clone, Copy)]
 pub struct Senseless;
 
-impl From<Senseless> for Refusal {
-    ghost use Rattle.rules.specs.declared.Refusal.TheVariants.{BadStore};
-
-    ghost from_gives = { λ _ r. r ≡ BadStore };
-
-    fn from(_words: Senseless) -> Refusal {
-        Refusal::BadStore
-    }
-}
-
 // What a put did to the starts.
 #[derive(Clone, Copy)]
 pub enum Report {

@@ -5,7 +5,7 @@ ghost use Rattle.stores.specs.Promise.{Promise, slices};
 ghost use Rattle.stores.specs.Says.{says_ended};
 
 use crate::header::opened;
-use rules::{Owner, Plan, Refusal};
+use rules::{Owner, Plan, Refusal, Senseless};
 
 // Five slices, and no struct of them: one is lent to be written, the others to be read.
 pub fn retract(
@@ -25,6 +25,8 @@ pub fn retract(
     if !plan.has_owner(owner) {
         return Err(Refusal::NoSuchOwner);
     }
-    routes::wait::retract(&mut routes[..Plan::ROUTES], owner)?;
-    Ok(())
+    match routes::wait::retract(&mut routes[..Plan::ROUTES], owner) {
+        Ok(()) => Ok(()),
+        Err(Senseless) => Err(Refusal::BadStore),
+    }
 }

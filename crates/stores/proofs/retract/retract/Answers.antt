@@ -12,9 +12,8 @@ pub returns-then-not-has_owner : goal.returns-then-not-has_owner
 returns-then-not-has_owner c =
     retract_nobody _ _ c.in_ok-plan.ensures.says refl c.has_owner.ensures c.if-not-has_owner.true
 
-pub returns-in_err-retract : goal.returns-in_err-retract
-returns-in_err-retract c =
-    rw (exit_err c.from_residual-in_err-retract.ensures.1) (retract_bad _ _ c.in_ok-plan.ensures.says refl c.has_owner.ensures c.if-not-has_owner.false c.in_err-retract.ensures refl)
+pub returns-in-Err-Senseless : goal.returns-in-Err-Senseless
+returns-in-Err-Senseless c = retract_bad _ _ c.in_ok-plan.ensures.says refl c.has_owner.ensures c.if-not-has_owner.false c.in-Err-Senseless.ensures refl
 
-pub returns : goal.returns
-returns c = retract_waits _ _ c.in_ok-plan.ensures.says refl c.has_owner.ensures c.if-not-has_owner.false c.in_ok-retract.ensures refl
+pub returns-in-Ok : goal.returns-in-Ok
+returns-in-Ok c = retract_waits _ _ c.in_ok-plan.ensures.says refl c.has_owner.ensures c.if-not-has_owner.false c.in-Ok.ensures refl
