@@ -3,7 +3,7 @@ use Prim.Native.Nat.{ℕ, zero, suc}
 use mathlib.Core.Path.{◌≡◌, refl}
 use mathlib.Core.List.{List, map}
 use native.Mathlib.Omega.{arith}
-use lib.ListN.{replicate, take}
+use lib.ListN.{replicate}
 use Rattle.rules.specs.Lists.{Pair, sum_of, table, times}
 use Rattle.rules.specs.Routes.{empty_route, fresh, links_of, outs}
 use Rattle.rules.specs.Sizes.{Base, most_jobs, pair_up, valid_fixed}
@@ -26,6 +26,5 @@ fresh_edges b = λ i. record {
 }
 
 -- the words that hold the whole fixed list hold the plan
-pub fresh_held : (b : Base) (f g e : List ℕ) (k : ℕ) → b.fixed ≡ pair_up (take k f) (take k g) → Written f g k b.jobs e
-    → Holds e (edges_of (fresh b))
-fresh_held b f g e k q W = rw (← fresh_edges b, q) W
+pub fresh_held : (b : Base) (f g e : List ℕ) → b.fixed ≡ pair_up f g → Written f g b.jobs e → Holds e (edges_of (fresh b))
+fresh_held b f g e q W = rw (← fresh_edges b, q) W

@@ -6,8 +6,8 @@ use mathlib.Core.List.{List, [], ◌∷◌, map}
 use native.Mathlib.Omega.{arith}
 use native.Mathlib.Numerals.{add-one}
 use lib.Dec.{leb, ltb}
-use lib.ListN.{length, get_or, take, drop, replicate, drop_of_length-le}
-use lib.Seq.{drop-cons, length-take-le}
+use lib.ListN.{length, get_or, drop, replicate, drop_of_length-le}
+use lib.Seq.{drop-cons}
 use borrow.Author.Tests.{leb-false, lt-ltb, le-ltb, ltb-false, ltb-true}
 use Rattle.rules.specs.Lists.{Pair, any_of, same_pair, tick}
 use Rattle.rules.specs.Sizes.{edges_length, falls, most_jobs}
@@ -118,7 +118,7 @@ module _ {f g : List ℕ} {n : ℕ} (L : Listing f g n) where
     here = rw eu (drop-cons f i 0 more)
 
     here' : drop i g ≡ v ∷ drop (suc i) g
-    here' = rw ev (drop-cons g i 0 (omega (arith, L.even)))
+    here' = rw ev (drop-cons g i 0 (omega (arith, L.to_long)))
 
     bounds : (u < n) × (any_of (leb n) (drop (suc i) f) ≡ false)
     bounds = let (x, y) = or_false {a = leb n u} (rw here at G.below) in (leb-false n u x, y)
@@ -216,15 +216,5 @@ unfolding zeros
 blank e h q =
     record { words = h ∙ ap (λ (k : ℕ). replicate k 0) q; no_tails = refl; no_out = refl; no_ins = refl; none = refl }
 
-pub listing : {e f g : List ℕ} {k n : ℕ} → Fixing e f g k n → Listing (take k f) (take k g) n
-listing {e} {f} {g} {k} F = record {
-  even = length-take-le k g F.to_long ∙ sym (length-take-le k f F.from_long);
-  few = omega (arith, length-take-le k f F.from_long, F.few);
-  jobs = F.jobs;
-  below = F.below;
-  rising = F.rising;
-}
-
--- as many as are handed on
-pub handed : (k : ℕ) (f : List ℕ) → k ≤ length f → k ≡ length (take k f)
-handed k f h = sym (length-take-le k f h)
+pub listing : {e f g : List ℕ} {n : ℕ} → Fixing e f g n → Listing f g n
+listing F = record { to_long = F.to_long; few = F.few; jobs = F.jobs; below = F.below; rising = F.rising }

@@ -86,7 +86,7 @@ pub record Blank (e : List ℕ) (d : Draft) : Type 0 where
 
 -- the pairs (f, g) are a fixed list between n jobs
 pub record Listing (f g : List ℕ) (n : ℕ) : Type 0 where
-  pub even : length g ≡ length f
+  pub to_long : length f ≤ length g
   pub few : length f ≤ most_fixed
   pub jobs : n ≤ most_jobs
   pub below : any_of (leb n) f ≡ false

@@ -1,5 +1,5 @@
 -- The fixed list's edges: the model that the words hold once they are written. Assumes nothing.
-use Rattle.std.specs.Prelude.{ℕ, ◌≤◌, ◌≡◌, false, List, [], map, leb, ltb, length, replicate, take}
+use Rattle.std.specs.Prelude.{ℕ, ◌≤◌, ◌≡◌, false, List, [], map, leb, ltb, length, replicate}
 use Rattle.rules.specs.Lists.{Pair, any_of, keep, table, times}
 use Rattle.rules.specs.Routes.{adds, outs, turned}
 use Rattle.rules.specs.Sizes.{edges_length, falls, most_fixed, most_jobs, pair_up}
@@ -17,16 +17,15 @@ fixed_model n l = record {
   pred = table most_jobs (outs (adds (replicate n []) (map turned l)));
 }
 
--- the first k pairs of f and g are a fixed list between n jobs, and e has room for the five tables
-pub record Fixing (e f g : List ℕ) (k n : ℕ) : Type 0 where
+-- the pairs (f, g) are a fixed list between n jobs, and e has room for the five tables
+pub record Fixing (e f g : List ℕ) (n : ℕ) : Type 0 where
   pub size : length e ≡ edges_length
-  pub from_long : k ≤ length f
-  pub to_long : k ≤ length g
-  pub few : k ≤ most_fixed
+  pub to_long : length f ≤ length g
+  pub few : length f ≤ most_fixed
   pub jobs : n ≤ most_jobs
-  pub below : any_of (leb n) (take k f) ≡ false
-  pub rising : falls 0 (take k f) ≡ false
+  pub below : any_of (leb n) f ≡ false
+  pub rising : falls 0 f ≡ false
 
--- e holds the edges of the first k pairs, and nothing else
-abbrev pub Written : List ℕ → List ℕ → ℕ → ℕ → List ℕ → Type 0
-Written f g k n e = Holds e (fixed_model n (valid n (take k f) (take k g)))
+-- e holds the edges of the pairs (f, g), and nothing else
+abbrev pub Written : List ℕ → List ℕ → ℕ → List ℕ → Type 0
+Written f g n e = Holds e (fixed_model n (valid n f g))

@@ -100,10 +100,10 @@ fn scatter(e: &mut [u16], tails: &[u16], next: &mut [u16])
     }
 }
 
-// The edges of the first k pairs, between n jobs, in place of whatever the tables held.
-pub fn fixed(e: &mut [u16], from: &[u32], to: &[u32], k: usize, n: u32)
-    requires { Fixing e.old from.now to.now k n }
-    ensures { Written from.now to.now k n e.new }
+// The edges of the pairs, between n jobs, in place of whatever the tables held.
+pub fn fixed(e: &mut [u16], from: &[u32], to: &[u32], n: u32)
+    requires { Fixing e.old from.now to.now n }
+    ensures { Written from.now to.now n e.new }
 {
     e.fill(0);
     let mut draft = Draft {
@@ -112,6 +112,6 @@ pub fn fixed(e: &mut [u16], from: &[u32], to: &[u32], k: usize, n: u32)
         ins: [0; Plan::JOBS],
         edges: 0,
     };
-    draft.gather(e, &from[..k], &to[..k], n);
+    draft.gather(e, from, to, n);
     draft.turn(e);
 }

@@ -7,9 +7,9 @@ use mathlib.Core.Option.{none}
 use mathlib.Core.List.{List, ◌++◌}
 use lib.Dec.{leb}
 use lib.ListN.{length, take, drop, replicate, length-append, length-replicate, take-append-drop}
-use lib.Seq.{sets, take-length, take-append_seam, drop-append_seam}
+use lib.Seq.{sets, take-append_seam, drop-append_seam}
 use Rattle.rules.specs.Lists.{any_of}
-use Rattle.rules.specs.Sizes.{Base, Loading, base_of, bad_from, falls, pair_up, base_length, edges_length, most_fixed, routes_length}
+use Rattle.rules.specs.Sizes.{Base, Loading, base_of, bad_from, falls, base_length, edges_length, most_fixed, routes_length}
 use Rattle.rules.specs.Refusals.{first_of, load_checks}
 use Rattle.rules.specs.Routes.{fresh}
 use Rattle.rules.specs.Sound.{Sound}
@@ -73,21 +73,20 @@ module _ (l : Loading) (fine : first_of (load_checks l) ≡ none) where
   unfolding bad_from
   rises = let (a, (b, (c, d))) = passes in or_false {a = any_of (leb l.jobs) l.from} c
 
-  pub fixing : {e : List ℕ} → length e ≡ edges_length → Fixing e l.from l.to (length l.from) l.jobs
+  pub fixing : {e : List ℕ} → length e ≡ edges_length → Fixing e l.from l.to l.jobs
   fixing q = record {
     size = q;
-    from_long = omega arith;
     to_long = omega (arith, sizes.pairs);
     few = sizes.fixed;
     jobs = sizes.jobs;
-    below = rw take-length rises.0;
-    rising = rw take-length rises.1;
+    below = rises.0;
+    rising = rises.1;
   }
 
   pub laid : {b s e r b' s' part r' : List ℕ} → routes_length ≤ length r
       → b' ≡ base_laid l.jobs l.owners l.expected l.from l.to ++ drop base_length b
       → s' ≡ padded 512 l.durations ++ drop 512 s
-      → Written l.from l.to (length l.from) l.jobs part → length part ≡ edges_length
+      → Written l.from l.to l.jobs part → length part ≡ edges_length
       → r' ≡ sets r 0 (replicate routes_length 0)
       → Laid (fresh (base_of l)) b s e r b' s' (part ++ drop edges_length e) r'
   unfolding base_of
@@ -96,14 +95,12 @@ module _ (l : Loading) (fine : first_of (load_checks l) ≡ none) where
       let brief : length l.durations ≤ 512 = omega (arith, sizes.durations, sizes.jobs) in
       let zeros : length (replicate {A = ℕ} routes_length 0) ≡ routes_length = length-replicate {A = ℕ} routes_length 0 in
       let same : base_of l ≡ (fresh (base_of l)).base = sym (fresh_base (base_of l)) in
-      let all : pair_up l.from l.to ≡ pair_up (take (length l.from) l.from) (take (length l.from) l.to)
-      = rw (take-length l.from, sizes.pairs, take-length l.to) in
       record {
         base = over_as (base_laid_lem l sizes.pairs short ∙ ap base_words same)
             (over base_length _ b (base_long l.jobs l.owners l.expected l.from l.to sizes.fixed (sym sizes.pairs) short) qb);
         spans = over_as (spans_words l brief ∙ ap span_words same)
             (over 512 (padded 512 l.durations) s (padded_length 512 l.durations 0 brief) qs);
-        edges = over_as (fresh_held (base_of l) l.from l.to part (length l.from) all W).words (over edges_length part e long refl);
+        edges = over_as (fresh_held (base_of l) l.from l.to part refl W).words (over edges_length part e long refl);
         routes = over_as (fresh_routes (base_of l)).words
             (over routes_length (replicate routes_length 0) r zeros (in_front r (replicate routes_length 0) routes_length qr zeros h));
       }

@@ -108,13 +108,7 @@ fn write(base: &mut [u32], spans: &mut [u64], edges: &mut [u16], routes: &mut [u
         what.to,
     );
     write_spans(spans, what.durations);
-    fixed(
-        &mut edges[..Plan::EDGES],
-        what.from,
-        what.to,
-        what.from.len(),
-        what.jobs,
-    );
+    fixed(&mut edges[..Plan::EDGES], what.from, what.to, what.jobs);
     no_routes(routes);
 }
 

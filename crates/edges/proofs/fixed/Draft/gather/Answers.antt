@@ -50,5 +50,5 @@ returns c =
     let all =
     zip_end f g c.loop-u.yielded c.into_iter-u-iterator.result c.loop-u.u-iterator c.next.new.self c.next.result first second
     c.loop-u.yielded_by c.in-None.is c.next.ensures.steps in
-    let even = c.requires.1.even in
+    let long = c.requires.1.to_long in
     ends c.requires.1 c.loop-u.invariant.2 (omega arith)
