@@ -69,7 +69,7 @@ fn judge(
         n,
         is_cyclic(store.times),
     );
-    widen(out, 0, new, new.len());
+    widen(out, 0, new);
     Ok(Moved {
         length: new.len(),
         quick: verdicts.quick,

@@ -27,7 +27,7 @@ fn closed(edges: &[u16], n: usize, out: &mut [u32]) -> Judged
 {
     let mut jobs = [0u16; Plan::JOBS];
     let k = cycle(edges, n, &mut jobs);
-    widen(out, 0, &jobs, k);
+    widen(out, 0, &jobs[..k]);
     Judged::Cycle(k)
 }
 
@@ -38,7 +38,7 @@ fn shown(edges: &[u16], n: usize, out: &mut [u32]) -> Judged
 {
     let mut jobs = [0u16; Plan::JOBS];
     if lowest_up(edges, n, &mut jobs) {
-        widen(out, 0, &jobs, n);
+        widen(out, 0, &jobs[..n]);
         return Judged::LineUp(n);
     }
     closed(edges, n, out)

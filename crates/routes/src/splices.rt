@@ -30,7 +30,5 @@ pub fn shift_of(out: usize, new: usize) -> u16
 pub fn shift(a: &mut [u16], from: usize, by: u16)
     ensures { a.new ≡ map_from (shifted by) from a.old }
 {
-    for i in from..a.len() {
-        a[i] = a[i].wrapping_add(by);
-    }
+    words::map_from(a, from, |x| x.wrapping_add(by));
 }

@@ -38,7 +38,7 @@ pub fn swap_remove(a: &mut [u16], p: usize, t: usize)
 }
 
 // f of what stands there at each place from k on.
-fn map_from<F: Fn(u16) -> u16>(a: &mut [u16], k: usize, f: F)
+pub fn map_from<F: Fn(u16) -> u16>(a: &mut [u16], k: usize, f: F)
     requires { F.IsAlwaysCallable f }
     ensures { (g : ℕ → ℕ) → Gives F.post f g → a.new ≡ map_from g k a.old }
 {
@@ -89,12 +89,12 @@ pub fn fill<T: Copy>(a: &mut [T], from: usize, to: usize, x: T)
     }
 }
 
-// The first k words of s as words of 32 bits, from place `at` on.
-pub fn widen(a: &mut [u32], at: usize, s: &[u16], k: usize)
-    requires { (at + k ≤ length a.old) × (k ≤ length s.now) }
-    ensures { a.new ≡ sets a.old at (take k s.now) }
+// All of s as words of 32 bits, from place `at` on.
+pub fn widen(a: &mut [u32], at: usize, s: &[u16])
+    requires { at + length s.now ≤ length a.old }
+    ensures { a.new ≡ sets a.old at s.now }
 {
-    for (i, x) in s[..k].iter().enumerate() {
+    for (i, x) in s.iter().enumerate() {
         a[at + i] = u32::from(*x);
     }
 }

@@ -12,8 +12,8 @@ pub returns-then-not-has_owner : goal.returns-then-not-has_owner
 returns-then-not-has_owner c =
     retract_nobody _ _ c.in_ok-plan.ensures.says refl c.has_owner.ensures c.if-not-has_owner.true
 
-pub returns-in-Err-Senseless : goal.returns-in-Err-Senseless
-returns-in-Err-Senseless c = retract_bad _ _ c.in_ok-plan.ensures.says refl c.has_owner.ensures c.if-not-has_owner.false c.in-Err-Senseless.ensures refl
+pub returns-in-Err : goal.returns-in-Err
+returns-in-Err c = retract_bad _ _ c.in_ok-plan.ensures.says refl c.has_owner.ensures c.if-not-has_owner.false c.in-Err.ensures refl
 
 pub returns-in-Ok : goal.returns-in-Ok
 returns-in-Ok c = retract_waits _ _ c.in_ok-plan.ensures.says refl c.has_owner.ensures c.if-not-has_owner.false c.in-Ok.ensures refl
