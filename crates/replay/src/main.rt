@@ -8,11 +8,10 @@ mod lists;
 mod moving;
 mod plans;
 
-ghost use Rattle.std.specs.Prelude.{◌≤◌, length, IfOk};
-
 use crate::plans::{Told, plan, skip};
 use std::io;
-use std::io::{ErrorKind, Read, Write};
+use std::io::Write;
+use text::inputs::read_full;
 
 // A number and what it counts.
 fn say<W: Write>(output: &mut W, x: u64, what: &[u8]) -> io::Result<()> {
@@ -34,6 +33,7 @@ fn run<W: Write>(output: &mut W, input: &[u8]) -> io::Result<()> {
     let mut plans: u64 = 0;
     let mut calls: u64 = 0;
     let mut differ: u64 = 0;
+    // A `while`: how far a turn goes is where the next plan begins.
     while at < input.len() {
         let told = plan(input, at);
         plans += 1;
@@ -50,28 +50,6 @@ fn run<W: Write>(output: &mut W, input: &[u8]) -> io::Result<()> {
 // Room for the list.
 fn room() -> [u8; 1048576] {
     [0u8; 1048576]
-}
-
-// Reads until the places are full or the input ends, and answers how many bytes stand in front then. A read that a signal interrupts is made again.
-fn read_full<R: Read>(from: &mut R, input: &mut [u8]) -> io::Result<usize>
-    ensures { IfOk result (λ n. n ≤ length input.new) }
-{
-    let mut n: usize = 0;
-    for _ in 0..u64::MAX {
-        if input.len() <= n {
-            return Ok(n);
-        }
-        match from.read(&mut input[n..]) {
-            Ok(0) => return Ok(n),
-            Ok(k) => n += k,
-            Err(e) => {
-                if e.kind() != ErrorKind::Interrupted {
-                    return Err(e);
-                }
-            }
-        }
-    }
-    Err(io::Error::from(ErrorKind::Interrupted))
 }
 
 fn main(rt: HostRuntime) -> io::Result<()> {

@@ -1,4 +1,4 @@
-use Rattle.std.proofs.Common.{◌+◌, ◌-◌, ◌≡◌, ◌≤◌, ◌<◌, length}
+use Rattle.std.proofs.Common.{◌+◌, ◌-◌, ◌≤◌, ◌<◌, length}
 use Rattle.replay.proofs.plans.plan.Given as goal
 
 -- a line has a byte or more, so there are no more calls than bytes
