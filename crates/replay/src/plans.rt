@@ -49,10 +49,14 @@ fn cut<T>(slice: &mut [T], short: bool) -> &mut [T] {
     &mut slice[..n]
 }
 
-// A call that is lent one slice a word shorter than its constant.
+// A byte of a line; a line that ends before it is read on as a comment.
+fn letter(line: &[u8], place: usize) -> u8 {
+    line.get(place).copied().unwrap_or(b'#')
+}
+
+// `short S` and a call: slice S is lent a word shorter than its constant.
 fn short(
-    call: &[u8],
-    which: u8,
+    line: &[u8],
     base: &mut [u32],
     spans: &mut [u64],
     edges: &mut [u16],
@@ -60,8 +64,9 @@ fn short(
     times: &mut [u64],
     out: &mut Numbers,
 ) {
+    let which = letter(line, 6);
     answer(
-        call,
+        &line[line.len().min(8)..],
         cut(base, which == b'0'),
         cut(spans, which == b'1'),
         cut(edges, which == b'2'),
@@ -72,17 +77,15 @@ fn short(
 }
 
 // The recorded answer: its word's first two letters, then its numbers.
-fn agrees(said: &[u8], answer: &[i64]) -> bool {
-    let [a, b, ..] = said else {
-        return false;
-    };
+fn agrees(line: &[u8], answer: &[i64]) -> bool {
+    let said = &line[line.len().min(2)..];
     let mut want = Numbers::new();
-    word(&mut want, &[*a, *b]);
+    word(&mut want, &[letter(said, 0), letter(said, 1)]);
     read(said, &mut want);
     want.as_slice() == answer
 }
 
-// A line that is no plan's: a call, whose answer `out` has then (`short S` lends slice S a word shorter than its constant), or the recorded answer to the call before, and whether it agrees.
+// A line that is no plan's: a call, whose answer `out` has then (`short S` lends a slice a word shorter), or the recorded answer to the call before, and whether it agrees.
 fn step(
     line: &[u8],
     base: &mut [u32],
@@ -94,9 +97,9 @@ fn step(
 ) -> Option<bool> {
     match line {
         [] | [b'#', ..] => None,
-        [b'=', b' ', said @ ..] => Some(agrees(said, out.as_slice())),
-        [b's', b'h', b'o', b'r', b't', b' ', which, b' ', call @ ..] => {
-            short(call, *which, base, spans, edges, routes, times, out);
+        [b'=', ..] => Some(agrees(line, out.as_slice())),
+        [b's', b'h', ..] => {
+            short(line, base, spans, edges, routes, times, out);
             None
         }
         _ => {

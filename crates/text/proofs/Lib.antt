@@ -10,6 +10,5 @@ pub mod Returning
 pub mod Runs
 pub mod Sampled
 pub mod Scans
-pub mod Signs
 pub mod Tabled
 pub mod Unique
