@@ -8,7 +8,7 @@ use mathlib.Core.Logic.{◌⊎◌, inl, inr}
 use mathlib.Core.List.{List, [], ◌∷◌, ◌++◌, append_assoc, map}
 use lib.Dec.{eqb, ltb}
 use lib.ListN.{length, get_or, take, drop, length-drop, length-map, replicate}
-use lib.Seq.{sets, length-sets, length-take-le, take-take, take_all, take_at, drop_at}
+use lib.Seq.{sets, length-sets, length-take-le, take-take, take_at, drop_at}
 use borrow.Author.Tests.{ne_eqb, le-leb, lt-leb, le-ltb, lt-ltb, ltb-true, ltb-false}
 use Rattle.rules.specs.declared.Plan.{Plan as Counts}
 use Rattle.rules.specs.declared.Refusal.{Refusal}
@@ -223,7 +223,7 @@ module _ {s : Slices} {plan : Counts} {old new out : List ℕ} where
   }
 
   pub judge_shown : {from to : List ℕ} {was : Bool} {c : Checked} {out' : List ℕ}
-      → Checks from to (take edges_length s.edges) old new plan.jobs was c → out' ≡ sets out 0 (take (length new) new)
+      → Checks from to (take edges_length s.edges) old new plan.jobs was c → out' ≡ sets out 0 new
       → from ≡ take plan.fixed (drop from_at s.base) → to ≡ take plan.fixed (drop to_at s.base) → was ≡ cyclic_in s.times
       → length new ≤ length out
       → Judges s plan old new out (Ok (record { length = length new; quick = c.quick; full = c.full })) out'
@@ -231,7 +231,7 @@ module _ {s : Slices} {plan : Counts} {old new out : List ℕ} where
     twelve = λ j z. absurd (let y : ◌≡◌ {A = ℕ} 0 1 = cc in omega arith);
     is = λ p W o m R g w.
         let q = checks_are W R new m g w ef et ew C in
-        answers_are W R new m g w room (w' ∙ ap (sets out 0) (take_all (length new) new (omega arith)))
+        answers_are W R new m g w room w'
         (ap (λ (x : Checked). x.quick) q) (ap (λ (x : Checked). x.full) q);
   }
 
