@@ -30,7 +30,7 @@ pub struct Loading<'a> {
     pub to: &'a [u32],
 }
 
-// A count, or a table's length, breaks its size.
+// A count, or a table's length, breaks its size: the counts and the lengths alone are asked for, as `breaks_by` says it.
 #[tactic(auto, unfolding(crate::specs::Loads::breaks_by))]
 fn breaks(jobs: u32, owners: u32, durations: usize, expected: usize, from: usize, to: usize) -> bool
     ensures { result ≡ breaks_by jobs owners durations expected from to }
