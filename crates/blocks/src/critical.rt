@@ -30,6 +30,7 @@ fn latest(e: &[u16], spans: &[u64], late: &[u64], v: usize, n: usize, top: u64) 
 }
 
 // Every latest start from the end of the order, and 1 for each job that starts at its latest.
+// Parameters, not a struct: two of the tables are written while the others are read, and no other function takes them all.
 fn latests(
     e: &[u16],
     spans: &[u64],

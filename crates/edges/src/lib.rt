@@ -100,6 +100,7 @@ fn ins(e: &mut [u16], a: usize, w: usize, k: usize, x: u16)
 }
 
 // One more at each place from k on of the starts that lie at a.
+// Apart from `downs`, as `up_in` and `down_in` are: one function over a flag would say neither.
 #[tactic(auto, using(crate::proofs::Steps::ups_is))]
 fn ups(e: &mut [u16], a: usize, k: usize)
     requires { a + starts_length ≤ length e.old }

@@ -15,6 +15,7 @@ pub struct Go {
 }
 
 // What the lines come to: `go`; nothing, where the input ends before it; or the number of a line that doesn't fit.
+// Three tables, not a struct of them: each is lent to be written, by itself.
 pub fn gather(
     input: &[u8],
     durations: &mut [u64],

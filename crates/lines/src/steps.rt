@@ -17,6 +17,7 @@ pub enum Stage {
 }
 
 // The numbers of `plan` as typed, and how many durations and fixed pairs stand in front of their tables.
+// Counts, not parts of the tables: the next lines write on behind them.
 #[derive(Clone, Copy)]
 pub struct Typed {
     pub jobs: u64,
@@ -106,6 +107,7 @@ fn fix_line(
 }
 
 // What a word and its numbers come to, by the stage.
+// A `match`, not a closure that is handed on: each stage takes other tables, and what comes next is data.
 fn word_step(
     word: Word,
     numbers: &[u64],

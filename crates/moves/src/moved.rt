@@ -135,6 +135,8 @@ fn answer(store: Store, owner: Owner, asked: Asked, out: &mut [u32]) -> Result<M
     finish(store, plan, old, new, out)
 }
 
+// Four calls, as there are four moves; what they share is `answer`.
+
 // A job goes to another place of its route.
 pub fn list_change(
     store: Store,

@@ -1,4 +1,4 @@
-// What a move turns off, and what it adds that is not live yet.
+// What a move turns off, and what it adds that is not live yet. Two loops of one shape: what they do at an edge is asked of other sets.
 #![tactic(auto, using(crate::proofs::Turning::turning))]
 
 ghost use Rattle.std.specs.Prelude.{◌≡◌, ◌+◌, ◌-◌, ◌<◌, ◌≤◌, true, [], ◌∷◌, length};

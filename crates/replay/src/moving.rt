@@ -1,4 +1,4 @@
-// The four moves: owner, positions, room for the new route, and a permutation's list.
+// The four moves: owner, positions, room for the new route, and a permutation's list. Each is a call of its own, with other positions.
 use crate::answers::moved;
 use crate::lists::{Args, LIST, Numbers};
 use moves::moved::{list_change, permutation, sublist_change, sublist_swap};

@@ -8,7 +8,7 @@ ghost use Rattle.routes.specs.Counting.{stepped, count_one, count_all, stops_in,
 use crate::{ASSIGNED, STOPS};
 use rules::Plan;
 
-// One more or less; it stays a word.
+// One more or less; it stays a word. Both ways in one, as `stepped` has them.
 fn step(c: u16, more: bool) -> u16
     ensures { result ≡ stepped more c }
 {

@@ -1,4 +1,6 @@
 // Bytes, digits and fields. What writes does so at a place, and answers the place behind what it wrote.
+// Not by `Display`: its formatter says which bytes it writes, not where they stand in the lent slice, and that is what is promised (`Wrote`).
+// A place beside the slice, not a part of it: the promise speaks of what stands before the place too.
 ghost use Rattle.std.specs.Prelude.{◌≡◌, ◌+◌, ◌≤◌, ◌<◌, [], ◌∷◌, length};
 ghost use Rattle.text.specs.Grammar.{digits_of};
 ghost use Rattle.text.specs.Writes.{Wrote, Fills, signed_of, most_digits, most_field, most_signed};
