@@ -49,7 +49,7 @@ impl<'a> Asked<'a> {
     ghost use Rattle.blocks.specs.Seen.{seen};
 
     // The next block, from the spot on. Behind the last one the spot lies beyond the owners.
-    // A spot, no Option: a caller asks as often as there are blocks, and goes on from the spot that it was given.
+    // A spot, no Option: behind the last block it says where the search has ended, and a caller that knows how many blocks there are asks no more.
     pub fn step(self, sight: Sight, at: Spot) -> Spot
         ensures { Stepped self.entry.edges.now (seen sight.entry) self.entry.routes.now self.entry.all
             self.entry.owners.now at result }

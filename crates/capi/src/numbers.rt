@@ -55,7 +55,7 @@ fn tell(told: &mut [u64; TOLD], row: &[u64]) -> u32
     0
 }
 
-// In each call an arm for the refusal, not a closure for what is told: both arms write `nums`, and one alone can be lent it.
+// In each call an arm for the refusal, not a closure for what is told: where a score is told both arms write `nums`, and one alone can be lent it.
 
 // Load.
 pub fn scored(answer: Result<Score, Refusal>, nums: &mut [i64; NUMS]) -> u32

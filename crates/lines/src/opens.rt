@@ -15,7 +15,7 @@ pub struct Go {
 }
 
 // What the lines come to: `go`; nothing, where the input ends before it; or the number of a line that doesn't fit.
-// Three tables, not a struct of them: each is lent to be written, by itself.
+// Three tables, not a struct of them: a struct of `&mut` slices has to say at each line that it holds the same ones.
 pub fn gather(
     input: &[u8],
     durations: &mut [u64],

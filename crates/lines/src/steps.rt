@@ -17,7 +17,7 @@ pub enum Stage {
 }
 
 // The numbers of `plan` as typed, and how many durations and fixed pairs stand in front of their tables.
-// Counts, not parts of the tables: the next lines write on behind them.
+// Counts, not parts of the tables: these are lent anew, to be written, at each line.
 #[derive(Clone, Copy)]
 pub struct Typed {
     pub jobs: u64,

@@ -78,7 +78,7 @@ fn trace(e: &[u16], v: usize, n: usize, dist: &[u16], d: usize, out: &mut [u16])
     }
 }
 
-// A shortest cycle through v, if there is one: how many places it takes. Without one that is 0, a length like the others, so no Option.
+// A shortest cycle through v, if there is one: how many places it takes. Without one that is 0, no Option: `verdict` shows so many places.
 fn cycle_at(e: &[u16], v: usize, n: usize, out: &mut [u16]) -> usize
     requires { (length e.now ≡ edges_length) × (n ≤ most_jobs) × (v < n) × (length out.old ≡ most_jobs) }
     ensures { Closes e.now v n out.old result out.new }

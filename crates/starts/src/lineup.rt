@@ -8,7 +8,8 @@ ghost use Rattle.starts.specs.Lines.{Tells, Enters, Lined, Lines};
 use edges::lists::{predecessors, successors};
 use rules::Plan;
 
-// Order, degrees and count are three parameters and no struct: the order is the caller's slice, read afterwards, and the degrees end with the call.
+// Order, degrees and count are three parameters and no struct: they are tables of the caller, who goes on with one or
+// the other.
 
 // One predecessor of v less; at the last v joins the order.
 pub fn relax(order: &mut [u16], deg: &mut [u16], v: u16, tail: usize) -> usize
