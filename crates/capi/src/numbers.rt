@@ -91,7 +91,7 @@ pub fn changed(
             let report = change.report;
             tell(told, &[report.kind(), u64::from(report.visits())])
         }
-        Err(r) => refuse(nums, r),
+        Err(refusal) => refuse(nums, refusal),
     }
 }
 
