@@ -1,5 +1,5 @@
 // The public calls: the critical blocks of a list of owners, written as records into a lent list, or found one at a time.
-ghost use Rattle.std.specs.Prelude.{◌≡◌, ◌≤◌, length};
+ghost use Rattle.std.specs.Prelude.{◌≡◌, ◌<◌, ◌≤◌, length, slice_set};
 ghost use Rattle.rules.specs.Sizes.{edges_length, most_jobs, routes_length};
 ghost use Rattle.stores.specs.Held.{held};
 ghost use Rattle.blocks.specs.Overs.{begun};
@@ -124,6 +124,14 @@ pub fn next(store: Store, owners: &[u32], found: Found, at: Spot) -> Spot
     asked.step(sight, at)
 }
 
+// A record is written.
+fn put_block(out: &mut [Block], at: usize, b: Block)
+    requires { at < length out.old }
+    ensures { out.new ≡ slice_set out.old at b }
+{
+    out[at] = b;
+}
+
 // The blocks of a list of owners, as records in the answer buffer.
 pub fn blocks(store: Store, owners: &[u32], out: &mut [Block]) -> Result<usize, Refusal>
     ensures { BlocksPromise owners.now
@@ -134,7 +142,7 @@ pub fn blocks(store: Store, owners: &[u32], out: &mut [Block]) -> Result<usize, 
     let mut at = found.spot;
     for i in 0..found.count {
         at = next(store, owners, found, at);
-        out[i] = at.block;
+        put_block(out, i, at.block);
     }
     Ok(found.count)
 }

@@ -44,7 +44,9 @@ pub(crate) fn skip(input: &[u8], from: usize) -> usize
 }
 
 // A slice, or all of it but the last word.
-fn cut<T>(slice: &mut [T], short: bool) -> &mut [T] {
+fn cut<T>(slice: &mut [T], short: bool) -> &mut [T]
+    ensures { length result.now ≤ length slice.old }
+{
     let n = slice.len().saturating_sub(usize::from(short));
     &mut slice[..n]
 }

@@ -1,6 +1,6 @@
 -- `splice`: three copies put an owner's new stops in the place of the old. Assumes nothing.
 use Rattle.std.proofs.Common.{◌≡◌, ℕ, zero, suc, ◌+◌, ◌-◌, ◌%◌, ◌≤◌, List, [], ◌++◌, length, take, drop, replicate, refl, ap, ◌∙◌, append_assoc, append-nil, zero-add, arith, length-append, length-take-le, length-drop, take_at, drop_at, rules}
-use lib.Seq.{slice, length-slice}
+use lib.Seq.{slice, length-slice, sets, sets-eq}
 use Rattle.rules.specs.Sizes.{most_entries}
 use Rattle.edges.specs.Rows.{pad}
 use Rattle.routes.specs.Raw.{splice, shift_of}
@@ -12,6 +12,10 @@ drop_replicate : (i n a : ℕ) → drop i (replicate n a) ≡ replicate (n - i) 
 drop_replicate zero n a = let e : n ≡ n - 0 = omega arith in ap (λ (k : ℕ). replicate k a) e
 drop_replicate (suc i) zero a = let e : 0 ≡ 0 - suc i = omega arith in ap (λ (k : ℕ). replicate k a) e
 drop_replicate (suc i) (suc n) a = let e : n - i ≡ suc n - suc i = omega arith in drop_replicate i n a ∙ ap (λ (k : ℕ). replicate k a) e
+
+-- written from the front on, s is all that stands there if it is as long
+pub set_whole : (y s : List ℕ) → length s ≡ length y → sets y 0 s ≡ s
+set_whole y s h = sets-eq s y 0 (omega arith) ∙ ap (λ (l : List ℕ). s ++ l) (row_none y (0 + length s) (omega arith)) ∙ append-nil s
 
 -- three copies: what is moved, over the front of zeros; the new stops; and what was moved, behind them
 pub spliced : (a s : List ℕ) (f t n : ℕ) {y₁ y₂ y₃ : List ℕ} → y₁ ≡ take (n - t) (drop t a) → y₂ ≡ s

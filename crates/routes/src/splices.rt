@@ -14,7 +14,8 @@ pub fn splice(a: &mut [u16], f: usize, t: usize, n: usize, s: &[u16])
     let mut rest = [0u16; Plan::ENTRIES];
     let k = f + s.len();
     rest[..n - t].copy_from_slice(&a[t..n]);
-    a[f..k].copy_from_slice(s);
+    // `copy_to`, as a block's copy between two slices that are lent would be `memmove`.
+    words::copy_to(&mut a[f..k], 0, s);
     a[k..].copy_from_slice(&rest[..Plan::ENTRIES - k]);
 }
 
@@ -30,5 +31,5 @@ pub fn shift_of(out: usize, new: usize) -> u16
 pub fn shift(a: &mut [u16], from: usize, by: u16)
     ensures { a.new ≡ map_from (shifted by) from a.old }
 {
-    words::map_from(a, from, |x| x.wrapping_add(by));
+    words::add_from(a, from, by);
 }

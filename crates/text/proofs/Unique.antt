@@ -2,17 +2,19 @@
 use Prim.Native.Nat.{ℕ, suc, ◌-◌, ◌≤◌}
 use native.Mathlib.Nat.{suc_inj}
 use native.Mathlib.Omega.{arith}
-use mathlib.Core.Path.{◌≡◌, refl, sym, ap, ◌∙◌}
+use mathlib.Core.Path.{◌≡◌, refl, sym, ap, subst, ◌∙◌}
 use mathlib.Core.Bool.{true}
 use mathlib.Core.Logic.{inl, inr}
-use mathlib.Core.List.{List, ◌∷◌, ◌++◌}
+use mathlib.Core.List.{List, [], ◌∷◌, ◌++◌}
 use lib.ListN.{length, take, drop, length-drop}
 use lib.Seq.{length-take-le}
 use Rattle.std.specs.Prelude.{Option, Some, None}
+use Rattle.std.specs.List.{AllZip}
 use Rattle.text.specs.declared.vocabulary.Word.{Word}
 use Rattle.text.specs.Grammar.{fits_of}
 use Rattle.text.specs.Reads.{other, Every, Ended, Ends, Reads, Fronts, none, more, Leaves, Parsed, Means, Left, Parses}
 use Rattle.text.specs.Writes.{Wrote, Fills}
+use Rattle.text.specs.Answers.{Told, line_of}
 use Rattle.text.proofs.Runs.{unlike, tail_is, every_at, cut_same}
 use Rattle.text.proofs.LineEnds.{other_self}
 use Rattle.text.proofs.Gathers.{field_same}
@@ -104,3 +106,29 @@ module _ {out : List ℕ} {at : ℕ} {bytes : List ℕ} {r s : ℕ} {o₁ o₂ :
 
   pub fills_same : {m n : ℕ} → Fills out at bytes m r o₁ → Fills out at bytes n s o₂ → (r ≡ s) × (o₁ ≡ o₂)
   fills_same A B = wrote_same A.wrote B.wrote
+
+-- ── a line of numbers of any width, each of which is one number ──
+
+module _ {A : Type 0} (converts : A → ℕ → Type 0) (one : (x : A) (a b : ℕ) → converts x a → converts x b → a ≡ b) where
+  zipped_same : (l : List A) (ns ms : List ℕ) → AllZip converts l ns → AllZip converts l ms → ns ≡ ms
+  zipped_same [] [] [] Z Y = refl
+  zipped_same [] [] (b ∷ ms) Z Y = absurd Y
+  zipped_same [] (a ∷ ns) ms Z Y = absurd Z
+  zipped_same (x ∷ l) [] ms Z Y = absurd Z
+  zipped_same (x ∷ l) (a ∷ ns) [] Z Y = absurd Y
+  zipped_same (x ∷ l) (a ∷ ns) (b ∷ ms) (p, Z) (q, Y) =
+      let e = one x a b p q in
+      let f = zipped_same l ns ms Z Y in
+      cc
+
+  pub told_same : (l : List A) (word : List ℕ) {out : List ℕ} {at m n r s : ℕ} {o₁ o₂ : List ℕ}
+      → Told converts l (λ ns. Fills out at (line_of word ns) m r o₁) → Told converts l (λ ns. Fills out at (line_of word ns) n s o₂)
+      → (r ≡ s) × (o₁ ≡ o₂)
+  told_same l word {out} {at} {n = n} {s = s} {o₂ = o₂} (ns, Z, F) (ms, Y, G) =
+      fills_same F (subst (λ (x : List ℕ). Fills out at (line_of word x) n s o₂) (sym (zipped_same l ns ms Z Y)) G)
+
+-- of 64 and of 32 bits alike, a number converts to itself
+pub line_same : (l word : List ℕ) {out : List ℕ} {at m n r s : ℕ} {o₁ o₂ : List ℕ}
+    → Told (λ x y. y ≡ x) l (λ ns. Fills out at (line_of word ns) m r o₁) → Told (λ x y. y ≡ x) l (λ ns. Fills out at (line_of word ns) n s o₂)
+    → (r ≡ s) × (o₁ ≡ o₂)
+line_same = told_same (λ x y. y ≡ x) (λ x a b p q. p ∙ sym q)

@@ -12,7 +12,7 @@ use lib.Seq.{sets, sets-eq, length-take-le}
 
 -- ── the words of l from place `at` on: i of them are there ──
 
-pub record Copying (a₀ : List ℕ) (at : ℕ) (l a : List ℕ) (i : ℕ) : Type 0 where
+pub record Copying {X : Type 0} (a₀ : List X) (at : ℕ) (l a : List X) (i : ℕ) : Type 0 where
   pub long : length a ≡ length a₀
   pub left : sets a (at + i) (drop i l) ≡ sets a₀ at l
 

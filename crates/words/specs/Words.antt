@@ -1,5 +1,5 @@
 -- What the functions of `words` do to a list of words. Assumes nothing.
-use Rattle.std.specs.Prelude.{ℕ, zero, suc, ◌≡◌, ◌<◌, ◌+◌, ◌-◌, min, cond, List, [], ◌∷◌, ◌++◌, Option, Some, None, get_or, set, eqb}
+use Rattle.std.specs.Prelude.{ℕ, zero, suc, ◌≡◌, ◌<◌, ◌+◌, ◌-◌, ◌%◌, ◌^◌, min, cond, List, [], ◌∷◌, ◌++◌, Option, Some, None, get_or, set, eqb}
 
 -- x at place k, what stood from there on one place up; the list is as long as it was, so its last element falls off
 unfoldable pub insert_at : {X : Type 0} → ℕ → X → List X → List X
@@ -34,6 +34,10 @@ up x = min (x + 1) 65535
 -- one less, down to 0
 abbrev pub down : ℕ → ℕ
 down x = x - 1
+
+-- by more, modulo 2^16
+abbrev pub added : ℕ → ℕ → ℕ
+added by x = (x + by) % 2 ^ 16
 
 -- the first place of x in a list whose first element has place `at`
 unfoldable pub find_from : ℕ → ℕ → List ℕ → Option ℕ

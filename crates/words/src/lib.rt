@@ -5,7 +5,7 @@
 ghost use Rattle.std.specs.Prelude.{ℕ, ◌≡◌, ◌+◌, ◌-◌, ◌<◌, ◌≤◌, length, replicate, take};
 ghost use Rattle.std.proofs.Math.Seq.{slice};
 ghost use Rattle.std.proofs.lemmas.List.Edits.{sets};
-ghost use Rattle.words.specs.Words.{Gives, insert_at, remove_at, swap_remove, map_from, up, down, find_from};
+ghost use Rattle.words.specs.Words.{Gives, insert_at, remove_at, swap_remove, map_from, up, down, added, find_from};
 
 // Puts x at place k. What stood there and after it moves one up, and the last element falls off.
 pub fn insert_at<T: Copy>(a: &mut [T], k: usize, x: T)
@@ -38,7 +38,7 @@ pub fn swap_remove(a: &mut [u16], p: usize, t: usize)
 }
 
 // f of what stands there at each place from k on.
-pub fn map_from<F: Fn(u16) -> u16>(a: &mut [u16], k: usize, f: F)
+fn map_from<F: Fn(u16) -> u16>(a: &mut [u16], k: usize, f: F)
     requires { F.IsAlwaysCallable f }
     ensures { (g : ℕ → ℕ) → Gives F.post f g → a.new ≡ map_from g k a.old }
 {
@@ -62,6 +62,13 @@ pub fn down_from(a: &mut [u16], k: usize)
     map_from(a, k, |x| x.saturating_sub(1));
 }
 
+// `by` more at each place from k on, modulo 2^16.
+pub fn add_from(a: &mut [u16], k: usize, by: u16)
+    ensures { a.new ≡ map_from (added by) k a.old }
+{
+    map_from(a, k, |x| x.wrapping_add(by));
+}
+
 // The first place from `from` up to, not including, `to` that holds x.
 pub fn find(a: &[u16], from: usize, to: usize, x: u16) -> Option<usize>
     requires { (from ≤ to) × (to ≤ length a.now) }
@@ -76,7 +83,10 @@ pub fn copy_to<T: Copy>(a: &mut [T], at: usize, s: &[T])
     requires { at + length s.now ≤ length a.old }
     ensures { a.new ≡ sets a.old at s.now }
 {
-    a[at..at + s.len()].copy_from_slice(s);
+    // One element after the other: a block's copy is `memmove`, which the archive for C would then need from outside.
+    for (i, x) in s.iter().enumerate() {
+        a[at + i] = *x;
+    }
 }
 
 // x at each place from `from` up to, not including, `to`.

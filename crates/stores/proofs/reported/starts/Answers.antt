@@ -17,7 +17,8 @@ pub slice_bounds-copy_to-end : goal.slice_bounds-copy_to-end
 slice_bounds-copy_to-end c =
     let o = c.in_ok-plan.ensures.opens in
     let l = starts_long c.args.store.times.now c.starts.ensures o.long.times in
-    sym (length-take-le c.in_ok-plan.plan.jobs c.starts.result.now (omega arith))
+    let s = o.long.spans in
+    sym (length-take-le c.in_ok-plan.plan.jobs _ (omega arith))
 
 pub returns : goal.returns
 returns c =
