@@ -1,7 +1,7 @@
 // The waiting owners, in the order they began to wait.
 #![tactic(auto, using(crate::proofs::Waits::freeing))]
 
-ghost use Rattle.std.specs.Prelude.{◌≡◌, ◌<◌, length};
+ghost use Rattle.std.specs.Prelude.{◌≡◌, ◌<◌, length, IfErr};
 ghost use Rattle.rules.specs.Sizes.{most_owners, routes_length};
 ghost use Rattle.routes.specs.Handing.{Waiting, GivenUp, Freed};
 ghost use Rattle.routes.specs.Promises.{Retracted, Cleared};
@@ -49,7 +49,8 @@ pub fn freed(r: &[u16], owner: Owner) -> usize
 // The owner waits, behind the others, unless it waits already.
 pub fn retract(r: &mut [u16], owner: Owner) -> Result<(), Senseless>
     requires { (length r.old ≡ routes_length) × (owner.0 < most_owners) }
-    ensures { Retracted r.old owner.0 r.new result }
+    ensures waits { Retracted r.old owner.0 r.new result }
+    ensures stays { IfErr result (λ e. r.new ≡ r.old) }
 {
     let x = owner.0 as u16;
     let k = usize::from(r[WAITERS]);

@@ -1,15 +1,18 @@
 -- Two replies that keep a promise are one. Assumes nothing.
-use Prim.Native.Nat.{ℕ, suc, ◌-◌, ◌≤◌}
+use Prim.Native.Nat.{ℕ, suc, ◌+◌, ◌-◌, ◌≤◌, ◌<◌}
 use native.Mathlib.Nat.{suc_inj}
 use native.Mathlib.Omega.{arith}
 use mathlib.Core.Path.{◌≡◌, refl, sym, ap, subst, ◌∙◌}
 use mathlib.Core.Bool.{true}
-use mathlib.Core.Logic.{inl, inr}
+use mathlib.Core.Logic.{◌⊎◌, inl, inr}
 use mathlib.Core.List.{List, [], ◌∷◌, ◌++◌}
-use lib.ListN.{length, take, drop, length-drop}
-use lib.Seq.{length-take-le}
+use lib.ListN.{length, take, drop, replicate, length-append, length-drop}
+use lib.Seq.{length-take-le, take_at}
 use Rattle.std.specs.Prelude.{Option, Some, None}
 use Rattle.std.specs.List.{AllZip}
+use Rattle.std.specs.Io.KnownBytes.{Consumes, IsAtEnd}
+use Rattle.std.proofs.lemmas.List.{take-append-drop}
+use Rattle.rules.proofs.Ranges.{lt_or_le}
 use Rattle.text.specs.declared.vocabulary.Word.{Word}
 use Rattle.text.specs.Grammar.{fits_of}
 use Rattle.text.specs.Reads.{other, Every, Ended, Ends, Reads, Fronts, none, more, Leaves, Parsed, Means, Left, Parses}
@@ -132,3 +135,49 @@ pub line_same : (l word : List ℕ) {out : List ℕ} {at m n r s : ℕ} {o₁ o�
     → Told (λ x y. y ≡ x) l (λ ns. Fills out at (line_of word ns) m r o₁) → Told (λ x y. y ≡ x) l (λ ns. Fills out at (line_of word ns) n s o₂)
     → (r ≡ s) × (o₁ ≡ o₂)
 line_same = told_same (λ x y. y ≡ x) (λ x a b p q. p ∙ sym q)
+
+-- ── an input, of a reader whose bytes are known ──
+
+-- of k places the first n are of the bytes xs, all of them if there is room, and the others are 0
+pub record FullyRead (xs : List ℕ) (k n : ℕ) (a : List ℕ) : Type 0 where
+  pub left : List ℕ
+  pub long : length a ≡ k
+  pub within : n ≤ k
+  pub bytes : xs ≡ take n a ++ left
+  pub end : n < k → left ≡ []
+  pub rest : drop n a ≡ replicate (k - n) 0
+
+-- what `read_full` promises where it answers a number
+pub fully_read : {xs a : List ℕ} {n : ℕ} (after : Option (List ℕ)) → n ≤ length a → Consumes (Some xs) after (take n a)
+    → (n < length a → IsAtEnd after) → drop n a ≡ replicate (length a - n) 0 → FullyRead xs (length a) n a
+fully_read (Some ys) w c e r = record { left = ys; long = refl; within = w; bytes = c; end = e; rest = r }
+fully_read None w c e r = absurd c
+
+module _ {xs a : List ℕ} {k n : ℕ} (F : FullyRead xs k n a) where
+  front_long : length (take n a) ≡ n
+  front_long = let l = F.long in let w = F.within in length-take-le n a (omega arith)
+
+  pub fully_counts : length xs ≡ n + length F.left
+  fully_counts = ap length F.bytes ∙ length-append (take n a) F.left ∙ ap (λ (j : ℕ). j + length F.left) front_long
+
+  pub fully_is : a ≡ take n xs ++ replicate (k - n) 0
+  fully_is =
+      let u : take n xs ≡ take n a = ap (take n) F.bytes ∙ take_at (take n a) F.left n front_long in
+      sym (take-append-drop n a) ∙ ap (λ (l : List ℕ). l ++ drop n a) (sym u) ∙ ap (λ (l : List ℕ). take n xs ++ l) F.rest
+
+module _ {xs a b : List ℕ} {k n m : ℕ} (F : FullyRead xs k n a) (G : FullyRead xs k m b) where
+  counts_same : (n < k) ⊎ (k ≤ n) → (m < k) ⊎ (k ≤ m) → n ≡ m
+  counts_same (inl p) (inl q) =
+      let c = fully_counts F in
+      let d = fully_counts G in
+      let e = ap length (F.end p) in
+      let f = ap length (G.end q) in
+      omega arith
+  counts_same (inl p) (inr q) = let c = fully_counts F in let d = fully_counts G in let e = ap length (F.end p) in omega arith
+  counts_same (inr p) (inl q) = let c = fully_counts F in let d = fully_counts G in let f = ap length (G.end q) in omega arith
+  counts_same (inr p) (inr q) = let v = F.within in let w = G.within in omega arith
+
+  pub full_same : (n ≡ m) × (a ≡ b)
+  full_same =
+      let e = counts_same (lt_or_le n k) (lt_or_le m k) in
+      (e, fully_is F ∙ ap (λ (j : ℕ). take j xs ++ replicate (k - j) 0) e ∙ sym (fully_is G))

@@ -1,12 +1,12 @@
 // An input, from any reader.
-ghost use Rattle.std.specs.Prelude.{◌≤◌, ◌<◌, length, take, IfOk};
+ghost use Rattle.std.specs.Prelude.{◌≡◌, ◌≤◌, ◌<◌, ◌-◌, length, take, drop, replicate, IfOk, MatchResult};
 ghost use Rattle.std.specs.Io.KnownBytes.{Consumes, IsAtEnd};
 
 use std::io;
 use std::io::{ErrorKind, Read};
 
 // Reads until the places are full or the input ends, and answers how many bytes stand in front then. A read that a signal interrupts is made again.
-pub fn read_full<R: Read>(from: &mut R, input: &mut [u8]) -> io::Result<usize>
+fn read_up<R: Read>(from: &mut R, input: &mut [u8]) -> io::Result<usize>
     ensures within { IfOk result (λ n. n ≤ length input.new) }
     ensures bytes { IfOk result (λ n. Consumes (R.remaining from.old) (R.remaining from.new) (take n input.new)) }
     ensures end { IfOk result (λ n. n < length input.new → IsAtEnd (R.remaining from.new)) }
@@ -27,4 +27,21 @@ pub fn read_full<R: Read>(from: &mut R, input: &mut [u8]) -> io::Result<usize>
         }
     }
     Err(io::Error::from(ErrorKind::Interrupted))
+}
+
+// The same, and the places behind those bytes are 0; after an error all are.
+pub fn read_full<R: Read>(from: &mut R, input: &mut [u8]) -> io::Result<usize>
+    ensures within { IfOk result (λ n. n ≤ length input.new) }
+    ensures bytes { IfOk result (λ n. Consumes (R.remaining from.old) (R.remaining from.new) (take n input.new)) }
+    ensures end { IfOk result (λ n. n < length input.new → IsAtEnd (R.remaining from.new)) }
+    ensures rest { MatchResult result (λ n. drop n input.new ≡ replicate (length input.new - n) 0)
+        (λ e. input.new ≡ replicate (length input.new) 0) }
+{
+    let read = read_up(from, input);
+    let n = match &read {
+        Ok(n) => *n,
+        Err(_) => 0,
+    };
+    input[n..].fill(0);
+    read
 }

@@ -4,7 +4,7 @@ use Rattle.blocks.proofs.Emitting.{emitting_next, kept, kept_refused}
 use Rattle.blocks.proofs.blocks.blocks.Goals as goal
 
 pub loop-i-preserved : goal.loop-i-preserved
-loop-i-preserved c = rw add-one (emitting_next c.loop-i.invariant c.loop-i-test.true c.next-at.ensures)
+loop-i-preserved c = rw (add-one, c.put_block.ensures) (emitting_next c.loop-i.invariant c.loop-i-test.true c.next-at.ensures)
 
 pub returns-in_err-found : goal.returns-in_err-found
 returns-in_err-found c =

@@ -13,7 +13,7 @@ returns-then-not-has_owner c =
     retract_nobody _ _ c.in_ok-plan.ensures.says refl c.has_owner.ensures c.if-not-has_owner.true
 
 pub returns-in-Err : goal.returns-in-Err
-returns-in-Err c = retract_bad _ _ c.in_ok-plan.ensures.says refl c.has_owner.ensures c.if-not-has_owner.false c.in-Err.ensures refl
+returns-in-Err c = retract_bad _ _ c.in_ok-plan.ensures.says refl c.has_owner.ensures c.if-not-has_owner.false c.in-Err.ensures.waits refl
 
 pub returns-in-Ok : goal.returns-in-Ok
-returns-in-Ok c = retract_waits _ _ c.in_ok-plan.ensures.says refl c.has_owner.ensures c.if-not-has_owner.false c.in-Ok.ensures refl
+returns-in-Ok c = retract_waits _ _ c.in_ok-plan.ensures.says refl c.has_owner.ensures c.if-not-has_owner.false c.in-Ok.ensures.waits refl

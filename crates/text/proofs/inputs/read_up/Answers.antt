@@ -1,8 +1,8 @@
--- `read_full`: a read puts its bytes behind those before it. Assumes nothing.
+-- `read_up`: a read puts its bytes behind those before it. Assumes nothing.
 use Rattle.std.proofs.Common.{arith}
 use Rattle.text.proofs.Reading.{read_more, read_none}
-use Rattle.text.proofs.inputs.read_full.Goals as goal
-use Rattle.text.proofs.inputs.read_full.Goals.{in-Ok, in-Err+else-ne}
+use Rattle.text.proofs.inputs.read_up.Goals as goal
+use Rattle.text.proofs.inputs.read_up.Goals.{in-Ok, in-Err+else-ne}
 
 pub loop-preserved : goal.loop-preserved
 loop-preserved g c =
