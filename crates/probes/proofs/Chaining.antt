@@ -6,10 +6,10 @@ use Rattle.rules.specs.Lists.{all_below, memb}
 use Rattle.rules.specs.Moves.{neighbours}
 use Rattle.rules.specs.Sizes.{most_entries, most_jobs}
 use Rattle.rules.proofs.Ranges.{and_true, same}
-use Rattle.probes.specs.Aheads.{Chained, links_left}
+use Rattle.probes.specs.Aheads.{Chained, links_left, set_of}
 use Rattle.probes.specs.declared.chain.Chain.{Chain}
 use Rattle.probes.specs.declared.chain.Leads.{Leads}
-use Rattle.probes.specs.Chains.{Falls, Links, Rule, along, always, blank, heads_of, holds_of, joined, links_at}
+use Rattle.probes.specs.Chains.{Falls, Links, Rule, along, always, blank, heads_of, holds_of, joined, links_at, tables}
 
 -- ── where the edges lead ──
 
@@ -150,18 +150,39 @@ module _ {s : Leads} (C : Chained s) where
     some : 0 < s.at
     some = omega arith
 
-    pub links_first : {x : ℕ} → x ≡ get_or s.set.now.next (s.at - 1) 0
-        → links_left s ≡ get_or s.set.now.head (s.at - 1) 0 ∷ links_left (record s { at = x })
+    pub links_first : {x : ℕ} → x ≡ get_or s.next.now (s.at - 1) 0
+        → links_left s ≡ get_or s.head.now (s.at - 1) 0 ∷ links_left (record s { at = x })
     unfolding links_left
-    links_first e = links_cons C.falls some C.near ∙ ap (λ (l : List ℕ). get_or s.set.now.head (s.at - 1) 0 ∷ l) (ap (links_at s.set.now) (sym e))
+    links_first e = links_cons C.falls some C.near ∙ ap (λ (l : List ℕ). get_or s.head.now (s.at - 1) 0 ∷ l) (ap (links_at (set_of s)) (sym e))
 
-    pub links_near : {x : ℕ} → x ≡ get_or s.set.now.next (s.at - 1) 0 → x ≤ most_entries
+    pub links_near : {x : ℕ} → x ≡ get_or s.next.now (s.at - 1) 0 → x ≤ most_entries
     links_near e = let a = links_fall C.falls e some C.near in let b = C.near in omega arith
 
+-- from a link on the first table does not count
+along_past : (a b next head : List ℕ) (f at : ℕ) → along f (tables a next head) at ≡ along f (tables b next head) at
+unfolding along
+along_past a b next head zero at = refl
+along_past a b next head (suc f) zero = refl
+along_past a b next head (suc f) (suc k) = ap (λ (l : List ℕ). get_or head k 0 ∷ l) (along_past a b next head f (get_or next k 0))
+
+falls_past : {n : ℕ} {first next head : List ℕ} → Falls n (tables first next head) → Falls n (tables (replicate most_jobs 0) next head)
+falls_past F = record {
+  firsts = length-replicate {A = ℕ} most_jobs 0;
+  nexts = F.nexts;
+  heads = F.heads;
+  first = λ u h. omega (arith, get_or-replicate {A = ℕ} most_jobs u 0 0 h);
+  next = F.next;
+}
+
 -- where the edges from u begin
-pub links_begin : (c : Bor Chain) {a w u : ℕ} → a ≡ get_or c.now.first w 0 → w ≡ u → links_left (record { set = c; at = a }) ≡ heads_of c.now u
+pub links_begin : (first : List ℕ) (next head : Bor (List ℕ)) {a w u : ℕ} → a ≡ get_or first w 0 → w ≡ u
+    → links_left (record { next = next; head = head; at = a }) ≡ heads_of (tables first next.now head.now) u
 unfolding links_left
-links_begin c e f = rw (e, f)
+links_begin first next head {a} e f = along_past (replicate most_jobs 0) first next.now head.now a a ∙ rw (e, f)
+
+pub chained_begin : {first : List ℕ} {next head : Bor (List ℕ)} → Falls most_entries (tables first next.now head.now) → {a w u : ℕ}
+    → a ≡ get_or first w 0 → w ≡ u → u < most_jobs → Chained (record { next = next; head = head; at = a })
+chained_begin F {u = u} e f h = record { falls = falls_past F; near = rw (e, f) (F.first u h) }
 
 -- a call that gave the first of what was left
 pub advances : {S A : Type 0} (can : S → Type 0) (rest : S → List A) {s t : S} {x : A} → can t → rest s ≡ x ∷ rest t

@@ -9,6 +9,10 @@ use Rattle.probes.specs.declared.chain.Chain.{Chain}
 abbrev pub blank : Chain
 blank = record { first = replicate most_jobs 0; next = replicate most_entries 0; head = replicate most_entries 0 }
 
+-- the three tables of one
+abbrev pub tables : List ℕ → List ℕ → List ℕ → Chain
+tables first next head = record { first = first; next = next; head = head }
+
 -- no job's last edge stands beyond place k, and the one before an edge stands before it
 pub record Falls (k : ℕ) (c : Chain) : Type 0 where
   pub firsts : length c.first ≡ most_jobs

@@ -6,9 +6,10 @@ ghost use Rattle.std.specs.Iterator.{YieldsFirst, item_count};
 ghost use Rattle.rules.specs.Lists.{all_below};
 ghost use Rattle.rules.specs.Moves.{neighbours};
 ghost use Rattle.rules.specs.Sizes.{most_entries, most_jobs};
-ghost use Rattle.probes.specs.Chains.{Falls, Links, always, blank, heads_of, holds_of};
+ghost use Rattle.probes.specs.Chains.{Falls, Links, always, blank, heads_of, holds_of, tables};
 ghost use Rattle.probes.specs.Aheads.{Chained, links_left};
 
+use crate::view::View;
 use rules::Plan;
 
 // A set. A place is written one higher, so that 0 is none.
@@ -51,10 +52,7 @@ impl Chain {
         ensures chained { Chained result }
         ensures left { links_left result ≡ heads_of self.now u }
     {
-        Leads {
-            set: self,
-            at: usize::from(self.first[usize::from(u)]),
-        }
+        leads_in(&self.first, &self.next, &self.head, u)
     }
 
     // Whether the edge from u to v is one of them.
@@ -62,12 +60,20 @@ impl Chain {
         requires { Falls most_entries self.now × (u < most_jobs) }
         ensures { result ≡ holds_of self.now u v }
     {
-        for w in self.leads(u) {
-            if w == v {
-                return true;
-            }
+        holds_in(&self.first, &self.next, &self.head, u, v)
+    }
+
+    // Its edges as those that are off, beside one job's live row.
+    pub fn view<'a>(&'a self, row: &'a [u16]) -> View<'a>
+        ensures live { result.live.now ≡ row.now }
+        ensures off { tables result.first.now result.next.now result.head.now ≡ self.now }
+    {
+        View {
+            live: row,
+            first: &self.first,
+            next: &self.next,
+            head: &self.head,
         }
-        false
     }
 
     // The edges of a list of jobs, each to the next.
@@ -82,10 +88,38 @@ impl Chain {
     }
 }
 
+// On the tables of a set: where the edges from u lead, the last one first.
+fn leads_in<'a>(first: &[u16], next: &'a [u16], head: &'a [u16], u: u16) -> Leads<'a>
+    requires { Falls most_entries (tables first.now next.now head.now) × (u < most_jobs) }
+    ensures chained { Chained result }
+    ensures left { links_left result ≡ heads_of (tables first.now next.now head.now) u }
+{
+    Leads {
+        next,
+        head,
+        at: usize::from(first[usize::from(u)]),
+    }
+}
+
+// Whether the edge from u to v is one of them.
+pub fn holds_in(first: &[u16], next: &[u16], head: &[u16], u: u16, v: u16) -> bool
+    requires { Falls most_entries (tables first.now next.now head.now) × (u < most_jobs) }
+    ensures { result ≡ holds_of (tables first.now next.now head.now) u v }
+{
+    for w in leads_in(first, next, head, u) {
+        if w == v {
+            return true;
+        }
+    }
+    false
+}
+
 // What is left of the edges from one job.
 #[derive(Drop)]
 pub struct Leads<'a> {
-    set: &'a Chain,
+    // Two tables of the set.
+    next: &'a [u16],
+    head: &'a [u16],
     // One more than the place of the next edge, 0 for none.
     at: usize,
 }
@@ -104,7 +138,7 @@ impl<'a> Iterator for Leads<'a> {
             return None;
         }
         let k = self.at - 1;
-        self.at = usize::from(self.set.next[k]);
-        Some(self.set.head[k])
+        self.at = usize::from(self.next[k]);
+        Some(self.head[k])
     }
 }

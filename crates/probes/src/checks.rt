@@ -4,14 +4,14 @@
 ghost use Rattle.std.specs.Prelude.{◌≡◌, ◌≤◌, true, length};
 ghost use Rattle.rules.specs.Lists.{all_below};
 ghost use Rattle.rules.specs.Sizes.{edges_length, most_entries, most_jobs};
-ghost use Rattle.probes.specs.Aheads.{Views};
+ghost use Rattle.probes.specs.Aheads.{Ons};
 ghost use Rattle.probes.specs.Judges.{Both, Checks};
 
 use crate::chain::Chain;
 use crate::full::lines_up;
+use crate::on::On;
 use crate::quick::turns;
 use crate::sets::{turned_off, turned_on};
-use crate::view::View;
 
 // The two verdicts.
 #[derive(Clone, Copy)]
@@ -21,11 +21,11 @@ pub struct Checked {
 }
 
 // Where the plan is not cyclic both checks agree; else the quick one looks for a way back.
-fn both(view: View, new: &[u16], n: usize, was: bool) -> Checked
-    requires { Views view × (n ≤ most_jobs) × (all_below n new.now ≡ true) }
-    ensures { Both view.entry.live.now view.entry.off.now view.entry.plus.now new.now n was result }
+fn both(on: On, new: &[u16], n: usize, was: bool) -> Checked
+    requires { Ons on × (n ≤ most_jobs) × (all_below n new.now ≡ true) }
+    ensures { Both on.entry.live.now on.entry.off.now on.entry.plus.now new.now n was result }
 {
-    if lines_up(view, n) {
+    if lines_up(on, n) {
         return Checked {
             quick: false,
             full: false,
@@ -37,7 +37,7 @@ fn both(view: View, new: &[u16], n: usize, was: bool) -> Checked
             full: true,
         };
     }
-    let quick = turns(view, new, n);
+    let quick = turns(on, new, n);
     Checked { quick, full: true }
 }
 
@@ -64,10 +64,10 @@ pub fn check(
     news.index(new);
     turned_off(from, to, old, &news, &mut off);
     turned_on(e, &olds, new, &mut plus);
-    let view = View {
+    let on = On {
         live: e,
         off: &off,
         plus: &plus,
     };
-    both(view, new, n, was)
+    both(on, new, n, was)
 }

@@ -4,11 +4,11 @@
 ghost use Rattle.std.specs.Prelude.{◌≡◌, ◌≤◌, [], ◌∷◌, length};
 ghost use Rattle.rules.specs.Sizes.{most_jobs};
 ghost use Rattle.starts.specs.Lines.{Tells};
-ghost use Rattle.probes.specs.Aheads.{Views, Walks, heads_left};
+ghost use Rattle.probes.specs.Aheads.{Ons, Walks, heads_left};
 ghost use Rattle.probes.specs.Fulls.{Begins, Bumps, Lines, Tallied};
 
 use crate::heads::{Heads, heads_from};
-use crate::view::View;
+use crate::on::On;
 use rules::Plan;
 use starts::lineup::{enter, relax};
 
@@ -38,12 +38,12 @@ fn bumps(heads: Heads, deg: &mut [u16])
 
 // How many edges that are on lead to each job.
 #[tactic(auto, using(crate::proofs::Tallying::tallying))]
-fn tally(view: View, deg: &mut [u16], n: usize)
-    requires { Views view × (length deg.old ≡ most_jobs) × (n ≤ most_jobs) }
-    ensures { Tallied view.entry.live.now view.entry.off.now view.entry.plus.now n n deg.old deg.new }
+fn tally(on: On, deg: &mut [u16], n: usize)
+    requires { Ons on × (length deg.old ≡ most_jobs) × (n ≤ most_jobs) }
+    ensures { Tallied on.entry.live.now on.entry.off.now on.entry.plus.now n n deg.old deg.new }
 {
     for u in 0..n {
-        bumps(heads_from(view, u as u16), deg);
+        bumps(heads_from(on, u as u16), deg);
     }
 }
 
@@ -78,14 +78,14 @@ fn tells(heads: Heads, order: &mut [u16], deg: &mut [u16], start: usize) -> usiz
 }
 
 // Whether what is on has a line-up.
-pub fn lines_up(view: View, n: usize) -> bool
-    requires { Views view × (n ≤ most_jobs) }
-    ensures { Lines view.entry.live.now view.entry.off.now view.entry.plus.now n result }
+pub fn lines_up(on: On, n: usize) -> bool
+    requires { Ons on × (n ≤ most_jobs) }
+    ensures { Lines on.entry.live.now on.entry.off.now on.entry.plus.now n result }
 {
     let mut count = [0u16; Plan::JOBS];
     let mut order = [0u16; Plan::JOBS];
     let mut deg = [0u16; Plan::JOBS];
-    tally(view, &mut count, n);
+    tally(on, &mut count, n);
     let mut tail = begin(&count, &mut order, &mut deg, n);
     let mut head = 0;
     // A `while`: the order grows while it is passed, so no range or row stands still to go over.
@@ -94,7 +94,7 @@ pub fn lines_up(view: View, n: usize) -> bool
         if n <= usize::from(u) {
             return false;
         }
-        tail = tells(heads_from(view, u), &mut order, &mut deg, tail);
+        tail = tells(heads_from(on, u), &mut order, &mut deg, tail);
         head += 1;
     }
     tail == n

@@ -4,9 +4,10 @@
 ghost use Rattle.std.specs.Prelude.{◌<◌};
 ghost use Rattle.std.specs.Iterator.{YieldsFirst, item_count};
 ghost use Rattle.rules.specs.Sizes.{most_jobs};
-ghost use Rattle.probes.specs.Aheads.{Sees, Views, Walks, heads_left};
+ghost use Rattle.probes.specs.Aheads.{Ons, Sees, Walks, heads_left};
 
 use crate::chain::Leads;
+use crate::on::On;
 use crate::view::{View, is_on};
 use edges::lists::successors;
 
@@ -14,8 +15,8 @@ use edges::lists::successors;
 pub struct Heads<'a> {
     view: View<'a>,
     u: u16,
-    // What is left of the live row, and of those that come on.
-    row: &'a [u16],
+    // The place of the live row that is next, and what is left of those that come on.
+    place: usize,
     plus: Leads<'a>,
 }
 
@@ -29,10 +30,10 @@ impl<'a> Iterator for Heads<'a> {
     ghost remaining = { item_count heads_left };
 
     fn next(&mut self) -> Option<u16> {
-        while let Some((v, rest)) = self.row.split_first() {
-            self.row = rest;
-            if is_on(self.view, self.u, *v) {
-                return Some(*v);
+        for place in self.place..self.view.live.len() {
+            self.place = place + 1;
+            if is_on(self.view, self.u, place) {
+                return Some(self.view.live[place]);
             }
         }
         self.plus.next()
@@ -40,15 +41,15 @@ impl<'a> Iterator for Heads<'a> {
 }
 
 // Where the edges from u lead that are on.
-pub fn heads_from(view: View<'_>, u: u16) -> Heads<'_>
-    requires { Views view × (u < most_jobs) }
+pub fn heads_from(on: On<'_>, u: u16) -> Heads<'_>
+    requires { Ons on × (u < most_jobs) }
     ensures walks { Walks result }
-    ensures sees { Sees view.entry.live.now view.entry.off.now view.entry.plus.now u (heads_left result) }
+    ensures sees { Sees on.entry.live.now on.entry.off.now on.entry.plus.now u (heads_left result) }
 {
     Heads {
-        view,
+        view: on.off.view(successors(on.live, usize::from(u))),
         u,
-        row: successors(view.live, usize::from(u)),
-        plus: view.plus.leads(u),
+        place: 0,
+        plus: on.plus.leads(u),
     }
 }

@@ -6,6 +6,7 @@ pub mod checks;
 mod fixed;
 mod full;
 mod heads;
+mod on;
 mod quick;
 mod sets;
 mod view;

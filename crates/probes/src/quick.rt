@@ -5,11 +5,11 @@ ghost use Rattle.std.specs.Prelude.{◌≡◌, ◌<◌, ◌≤◌, true, length}
 ghost use Rattle.rules.specs.Lists.{all_below};
 ghost use Rattle.rules.specs.Sizes.{most_jobs};
 ghost use Rattle.shown.specs.Distances.{Meets};
-ghost use Rattle.probes.specs.Aheads.{Views, Walks, heads_left};
+ghost use Rattle.probes.specs.Aheads.{Ons, Walks, heads_left};
 ghost use Rattle.probes.specs.Quicks.{Closes, Turns, Ways};
 
 use crate::heads::{Heads, heads_from};
-use crate::view::View;
+use crate::on::On;
 use rules::Plan;
 use shown::distances::meet;
 
@@ -28,9 +28,9 @@ fn meets(heads: Heads, queue: &mut [u16], dist: &mut [u16], d: u16, n: usize, st
 
 // Whether a way leads from v to u.
 #[tactic(auto, using(crate::proofs::Backways::spreading))]
-fn leads(view: View, v: u16, u: u16, n: usize) -> bool
-    requires { Views view × (n ≤ most_jobs) × (v < n) × (u < n) }
-    ensures { Ways view.entry.live.now view.entry.off.now view.entry.plus.now v u n result }
+fn leads(on: On, v: u16, u: u16, n: usize) -> bool
+    requires { Ons on × (n ≤ most_jobs) × (v < n) × (u < n) }
+    ensures { Ways on.entry.live.now on.entry.off.now on.entry.plus.now v u n result }
 {
     let mut queue = [0u16; Plan::JOBS];
     let mut dist = [0u16; Plan::JOBS];
@@ -46,27 +46,27 @@ fn leads(view: View, v: u16, u: u16, n: usize) -> bool
             return false;
         }
         let d = dist[k].wrapping_add(1);
-        tail = meets(heads_from(view, x), &mut queue, &mut dist, d, n, tail);
+        tail = meets(heads_from(on, x), &mut queue, &mut dist, d, n, tail);
         head += 1;
     }
     0 < dist[usize::from(u)]
 }
 
 // Whether the edge from u to v comes on, and its head leads back to its tail.
-fn closes(view: View, u: u16, v: u16, n: usize) -> bool
-    requires { Views view × (n ≤ most_jobs) × (u < n) × (v < n) }
-    ensures { Closes view.entry.live.now view.entry.off.now view.entry.plus.now u v n result }
+fn closes(on: On, u: u16, v: u16, n: usize) -> bool
+    requires { Ons on × (n ≤ most_jobs) × (u < n) × (v < n) }
+    ensures { Closes on.entry.live.now on.entry.off.now on.entry.plus.now u v n result }
 {
-    view.plus.holds(u, v) && leads(view, v, u, n)
+    on.plus.holds(u, v) && leads(on, v, u, n)
 }
 
 // Whether some cycle of what is on uses an edge that comes on, of those between neighbours.
-pub fn turns(view: View, jobs: &[u16], n: usize) -> bool
-    requires { Views view × (n ≤ most_jobs) × (all_below n jobs.now ≡ true) }
-    ensures { Turns view.entry.live.now view.entry.off.now view.entry.plus.now jobs.now n result }
+pub fn turns(on: On, jobs: &[u16], n: usize) -> bool
+    requires { Ons on × (n ≤ most_jobs) × (all_below n jobs.now ≡ true) }
+    ensures { Turns on.entry.live.now on.entry.off.now on.entry.plus.now jobs.now n result }
 {
     for i in 1..jobs.len() {
-        if closes(view, jobs[i - 1], jobs[i], n) {
+        if closes(on, jobs[i - 1], jobs[i], n) {
             return true;
         }
     }
