@@ -104,7 +104,7 @@ module _ {l : List ℕ} (o : ℕ) {k : ℕ} (e : k ≡ get_or l waiters_at 0) wh
   unfolding routes_of
   count_is p h = (e ∙ waits_count h, waits_few (routes_of p) h.wf)
 
-  pub retract_many : {z : Senseless} → most_owners < k → Retracted l o l (Err z)
+  pub retract_many : {z : Senseless} {l' : List ℕ} → most_owners < k → Retracted l o l' (Err z)
   retract_many q p S h low = let (a, b) = count_is p h in absurd (omega arith)
 
   module _ {row : List ℕ} (b : Bool) (any : b ≡ list_any (λ y. y == o) row) (W : Waiting l row) where
@@ -118,7 +118,7 @@ module _ {l : List ℕ} (o : ℕ) {k : ℕ} (e : k ≡ get_or l waiters_at 0) wh
     absent : b ≡ false → (p : Plan) → Holds l (routes_of p) → memb o p.desk.waiting ≡ false
     absent q p h = rw (waits_in p h W) at (sym m ∙ q)
 
-    pub retract_full : {z : Senseless} → b ≡ false → k ≡ most_owners → Retracted l o l (Err z)
+    pub retract_full : {z : Senseless} {l' : List ℕ} → b ≡ false → k ≡ most_owners → Retracted l o l' (Err z)
     retract_full q f p S h low = let (a, c) = count_is p h in let d = waits_room S low (absent q p h) in absurd (omega arith)
 
     pub retract_more : b ≡ false → Retracted l o (set (set l (waiting_at + k) o) waiters_at (k + 1)) (Ok tt)
