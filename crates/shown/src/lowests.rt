@@ -19,13 +19,14 @@ fn lessen(deg: &mut [u16], w: u16, low: usize) -> usize
         return low;
     }
     let d = deg[k];
+    if 1 < d {
+        deg[k] = d - 1;
+        return low;
+    }
     if d == 0 {
         return low;
     }
-    deg[k] = d - 1;
-    if 1 < d {
-        return low;
-    }
+    deg[k] = 0;
     low.min(k)
 }
 
