@@ -3,3 +3,4 @@ pub mod Sweeps
 pub mod Searches
 pub mod Writes
 pub mod Rows
+pub mod Unique

@@ -7,9 +7,9 @@ use native.Mathlib.Numerals.{add-one}
 use mathlib.Core.Path.{◌≡◌, refl, sym, ap, ◌∙◌}
 use mathlib.Core.List.{List, [], ◌∷◌, ◌++◌, append-nil}
 use lib.ListN.{length, get_or, set, take, drop, length-set, drop_of_length-le}
-use Rattle.std.specs.List.{copy_within}
+use Rattle.std.specs.List.{AllZip, copy_within}
 use Rattle.std.proofs.lemmas.List.{take_all}
-use Rattle.words.specs.Words.{insert_at, remove_at, swap_remove, map_from}
+use Rattle.words.specs.Words.{Mapped, insert_at, remove_at, swap_remove, map_from}
 
 -- ── insert_at: a copy within the list, one place up, and x in the place that is left ──
 
@@ -83,3 +83,38 @@ module _ {f : ℕ → ℕ} {k : ℕ} {a₀ a : List ℕ} {i : ℕ} (S : Mapping 
 
   pub map_done : length a ≤ i → a ≡ map_from f k a₀
   map_done h = sym (map_past f i a h) ∙ S.left
+
+-- ── the same of whatever a call may answer ──
+
+module _ (R : ℕ → ℕ → Type 0) (v : ℕ) where
+  answer_stays : (i : ℕ) (a b : List ℕ) → i < length a → take (suc i) b ≡ take (suc i) (set a i v) → take i b ≡ take i a
+  answer_stays i [] b h e = absurd (omega arith)
+  answer_stays zero (x ∷ a) b h e = refl
+  answer_stays (suc i) (x ∷ a) [] h e = absurd (let l = ap length e in omega arith)
+  answer_stays (suc i) (x ∷ a) (y ∷ b) h e =
+      let p : y ≡ x = ap (λ (l : List ℕ). get_or l 0 0) e in
+      rw p (ap (λ (l : List ℕ). x ∷ l) (answer_stays i a b (le_of_suc-le-suc h) (ap (drop 1) e)))
+
+  answer_met : (i : ℕ) (a b : List ℕ) → i < length a → R (get_or a i 0) v → take (suc i) b ≡ take (suc i) (set a i v)
+      → AllZip R (drop (suc i) (set a i v)) (drop (suc i) b) → AllZip R (drop i a) (drop i b)
+  answer_met i [] b h r e Z = absurd (omega arith)
+  answer_met zero (x ∷ a) [] h r e Z = absurd (let l = ap length e in omega arith)
+  answer_met zero (x ∷ a) (y ∷ b) h r e Z = (rw (ap (λ (l : List ℕ). get_or l 0 0) e) r, Z)
+  answer_met (suc i) (x ∷ a) [] h r e Z = absurd (let l = ap length e in omega arith)
+  answer_met (suc i) (x ∷ a) (y ∷ b) h r e Z = answer_met i a b (le_of_suc-le-suc h) r (ap (drop 1) e) Z
+
+-- the calls that are still to come, made on the list at hand, give the whole
+pub record Calling (R : ℕ → ℕ → Type 0) (k : ℕ) (a₀ a : List ℕ) (i : ℕ) : Type 0 where
+  pub left : (b : List ℕ) → Mapped R i a b → Mapped R k a₀ b
+
+module _ {R : ℕ → ℕ → Type 0} {k : ℕ} {a₀ a : List ℕ} {i : ℕ} (S : Calling R k a₀ a i) where
+  pub calling_next : {v : ℕ} → R (get_or a i 0) v → i < length a → Calling R k a₀ (set a i v) (i + 1)
+  calling_next {v} r h = record {
+    left = λ b M.
+        let e : take (suc i) b ≡ take (suc i) (set a i v) = rw (← add-one i) M.stays in
+        let Z : AllZip R (drop (suc i) (set a i v)) (drop (suc i) b) = rw (← add-one i) M.answers in
+        S.left b (record { stays = answer_stays R v i a b h e; answers = answer_met R v i a b h r e Z });
+  }
+
+  pub calling_done : length a ≤ i → Mapped R k a₀ a
+  calling_done h = S.left a (record { stays = refl; answers = rw (drop_of_length-le a h) tt })

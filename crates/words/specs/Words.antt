@@ -1,5 +1,6 @@
 -- What the functions of `words` do to a list of words. Assumes nothing.
-use Rattle.std.specs.Prelude.{ℕ, zero, suc, ◌≡◌, ◌<◌, ◌+◌, ◌-◌, ◌%◌, ◌^◌, min, cond, List, [], ◌∷◌, ◌++◌, Option, Some, None, get_or, set, eqb}
+use Rattle.std.specs.Prelude.{ℕ, zero, suc, ◌≡◌, ◌<◌, ◌+◌, ◌-◌, ◌%◌, ◌^◌, min, cond, List, [], ◌∷◌, ◌++◌, Option, Some, None, get_or, set, eqb, take, drop}
+use Rattle.std.specs.List.{AllZip}
 
 -- x at place k, what stood from there on one place up; the list is as long as it was, so its last element falls off
 unfoldable pub insert_at : {X : Type 0} → ℕ → X → List X → List X
@@ -26,6 +27,11 @@ map_from f (suc k) (y ∷ l) = y ∷ map_from f k l
 -- of each word the function f, which a call of it describes by `post`, gives what g does
 abbrev pub Gives : {F : Type 0} → (F → ℕ → ℕ → Type 0) → F → (ℕ → ℕ) → Type 0
 Gives post f g = (x y : ℕ) → x < 65536 → post f x y → y ≡ g x
+
+-- where `R x y` says that y may be the answer of a call for x: b is a before place k, and from there on answers for what stands in a
+pub record Mapped (R : ℕ → ℕ → Type 0) (k : ℕ) (a b : List ℕ) : Type 0 where
+  pub stays : take k b ≡ take k a
+  pub answers : AllZip R (drop k a) (drop k b)
 
 -- one more, up to the largest word
 abbrev pub up : ℕ → ℕ

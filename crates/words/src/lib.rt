@@ -5,7 +5,7 @@
 ghost use Rattle.std.specs.Prelude.{ℕ, ◌≡◌, ◌+◌, ◌-◌, ◌<◌, ◌≤◌, length, replicate, take};
 ghost use Rattle.std.proofs.Math.Seq.{slice};
 ghost use Rattle.std.proofs.lemmas.List.Edits.{sets};
-ghost use Rattle.words.specs.Words.{Gives, insert_at, remove_at, swap_remove, map_from, up, down, added, find_from};
+ghost use Rattle.words.specs.Words.{Gives, Mapped, insert_at, remove_at, swap_remove, map_from, up, down, added, find_from};
 
 // Puts x at place k. What stood there and after it moves one up, and the last element falls off.
 pub fn insert_at<T: Copy>(a: &mut [T], k: usize, x: T)
@@ -38,9 +38,10 @@ pub fn swap_remove(a: &mut [u16], p: usize, t: usize)
 }
 
 // f of what stands there at each place from k on.
-fn map_from<F: Fn(u16) -> u16>(a: &mut [u16], k: usize, f: F)
+pub fn map_from<F: Fn(u16) -> u16>(a: &mut [u16], k: usize, f: F)
     requires { F.IsAlwaysCallable f }
-    ensures { (g : ℕ → ℕ) → Gives F.post f g → a.new ≡ map_from g k a.old }
+    ensures gives { (g : ℕ → ℕ) → Gives F.post f g → a.new ≡ map_from g k a.old }
+    ensures each { Mapped (F.post f) k a.old a.new }
 {
     // By place: k may lie beyond the end, where no part of the slice begins.
     for i in k..a.len() {
@@ -106,5 +107,25 @@ pub fn widen(a: &mut [u32], at: usize, s: &[u16])
 {
     for (i, x) in s.iter().enumerate() {
         a[at + i] = u32::from(*x);
+    }
+}
+
+#[cfg(test)]
+mod tests {
+    use super::*;
+
+    // Three times each word, from the front, from a place within, from the end and from beyond it.
+    #[test]
+    fn maps_from_a_place(rt: HostRuntime) {
+        for (k, want) in [
+            (0, [21, 15, 3]),
+            (1, [7, 15, 3]),
+            (3, [7, 5, 1]),
+            (9, [7, 5, 1]),
+        ] {
+            let mut a = [7, 5, 1];
+            map_from(&mut a, k, |x| x.wrapping_mul(3));
+            assert_eq!(rt; a, want, "from {k}");
+        }
     }
 }
