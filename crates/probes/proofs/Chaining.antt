@@ -158,31 +158,15 @@ module _ {s : Leads} (C : Chained s) where
     pub links_near : {x : ℕ} → x ≡ get_or s.next.now (s.at - 1) 0 → x ≤ most_entries
     links_near e = let a = links_fall C.falls e some C.near in let b = C.near in omega arith
 
--- from a link on the first table does not count
-along_past : (a b next head : List ℕ) (f at : ℕ) → along f (tables a next head) at ≡ along f (tables b next head) at
-unfolding along
-along_past a b next head zero at = refl
-along_past a b next head (suc f) zero = refl
-along_past a b next head (suc f) (suc k) = ap (λ (l : List ℕ). get_or head k 0 ∷ l) (along_past a b next head f (get_or next k 0))
-
-falls_past : {n : ℕ} {first next head : List ℕ} → Falls n (tables first next head) → Falls n (tables (replicate most_jobs 0) next head)
-falls_past F = record {
-  firsts = length-replicate {A = ℕ} most_jobs 0;
-  nexts = F.nexts;
-  heads = F.heads;
-  first = λ u h. omega (arith, get_or-replicate {A = ℕ} most_jobs u 0 0 h);
-  next = F.next;
-}
-
 -- where the edges from u begin
-pub links_begin : (first : List ℕ) (next head : Bor (List ℕ)) {a w u : ℕ} → a ≡ get_or first w 0 → w ≡ u
-    → links_left (record { next = next; head = head; at = a }) ≡ heads_of (tables first next.now head.now) u
+pub links_begin : (first next head : Bor (List ℕ)) {a w u : ℕ} → a ≡ get_or first.now w 0 → w ≡ u
+    → links_left (record { first = first; next = next; head = head; at = a }) ≡ heads_of (tables first.now next.now head.now) u
 unfolding links_left
-links_begin first next head {a} e f = along_past (replicate most_jobs 0) first next.now head.now a a ∙ rw (e, f)
+links_begin first next head e f = rw (e, f)
 
-pub chained_begin : {first : List ℕ} {next head : Bor (List ℕ)} → Falls most_entries (tables first next.now head.now) → {a w u : ℕ}
-    → a ≡ get_or first w 0 → w ≡ u → u < most_jobs → Chained (record { next = next; head = head; at = a })
-chained_begin F {u = u} e f h = record { falls = falls_past F; near = rw (e, f) (F.first u h) }
+pub chained_begin : {first next head : Bor (List ℕ)} → Falls most_entries (tables first.now next.now head.now) → {a w u : ℕ}
+    → a ≡ get_or first.now w 0 → w ≡ u → u < most_jobs → Chained (record { first = first; next = next; head = head; at = a })
+chained_begin F {u = u} e f h = record { falls = F; near = rw (e, f) (F.first u h) }
 
 -- a call that gave the first of what was left
 pub advances : {S A : Type 0} (can : S → Type 0) (rest : S → List A) {s t : S} {x : A} → can t → rest s ≡ x ∷ rest t

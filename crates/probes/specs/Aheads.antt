@@ -1,5 +1,5 @@
 -- Where the edges of a job lead that are on: the live ones that stay, then those that come on. Assumes nothing.
-use Rattle.std.specs.Prelude.{◌≡◌, ℕ, ◌<◌, ◌≤◌, List, ◌++◌, length, drop, replicate}
+use Rattle.std.specs.Prelude.{◌≡◌, ℕ, ◌<◌, ◌≤◌, List, ◌++◌, length, drop}
 use Rattle.rules.specs.Lists.{keep}
 use Rattle.rules.specs.Sizes.{edges_length, most_entries, most_jobs}
 use Rattle.edges.specs.Edges.{Model, Holds}
@@ -28,9 +28,9 @@ pub record Ons (o : On) : Type 0 where
 
 -- ── one after the other ──
 
--- from a link on only two tables count
+-- the set whose edges are given
 abbrev pub set_of : Leads → Chain
-set_of l = tables (replicate most_jobs 0) l.next.now l.head.now
+set_of l = tables l.first.now l.next.now l.head.now
 
 -- a link of a set
 pub record Chained (l : Leads) : Type 0 where

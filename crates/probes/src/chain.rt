@@ -89,12 +89,13 @@ impl Chain {
 }
 
 // On the tables of a set: where the edges from u lead, the last one first.
-fn leads_in<'a>(first: &[u16], next: &'a [u16], head: &'a [u16], u: u16) -> Leads<'a>
+fn leads_in<'a>(first: &'a [u16], next: &'a [u16], head: &'a [u16], u: u16) -> Leads<'a>
     requires { Falls most_entries (tables first.now next.now head.now) × (u < most_jobs) }
     ensures chained { Chained result }
     ensures left { links_left result ≡ heads_of (tables first.now next.now head.now) u }
 {
     Leads {
+        first,
         next,
         head,
         at: usize::from(first[usize::from(u)]),
@@ -117,7 +118,8 @@ pub fn holds_in(first: &[u16], next: &[u16], head: &[u16], u: u16, v: u16) -> bo
 // What is left of the edges from one job.
 #[derive(Drop)]
 pub struct Leads<'a> {
-    // Two tables of the set.
+    // The tables of the set. No step reads the first: with it the whole set is known.
+    first: &'a [u16],
     next: &'a [u16],
     head: &'a [u16],
     // One more than the place of the next edge, 0 for none.
