@@ -1,5 +1,5 @@
-// The leaves: words in a lent slice. Each function has the exact contents after it as its contract, and those that only move words serve
-// every width.
+// The leaves: words in a lent slice. Each function has the exact contents after it as its contract (`map_from` as far as its closure says
+// them), and those that only move words serve every width.
 #![tactic(auto)]
 
 ghost use Rattle.std.specs.Prelude.{ℕ, ◌≡◌, ◌+◌, ◌-◌, ◌<◌, ◌≤◌, length, replicate, take};
