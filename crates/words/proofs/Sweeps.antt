@@ -81,6 +81,10 @@ module _ {f : ℕ → ℕ} {k : ℕ} {a₀ a : List ℕ} {i : ℕ} (S : Mapping 
   pub map_next : {v : ℕ} → v ≡ f (get_or a i 0) → i < length a → Mapping f k a₀ (set a i v) (i + 1)
   map_next {v} e h = record { long = length-set a i v ∙ S.long; left = rw (e, add-one i) (map_step f i a h ∙ S.left) }
 
+  -- what is answered for is read at a place j, and that is place i
+  pub map_next_at : {j v : ℕ} → v ≡ f (get_or a j 0) → j ≡ i → i < length a → Mapping f k a₀ (set a i v) (i + 1)
+  map_next_at e q h = map_next (rw q at e) h
+
   pub map_done : length a ≤ i → a ≡ map_from f k a₀
   map_done h = sym (map_past f i a h) ∙ S.left
 
@@ -108,12 +112,12 @@ pub record Calling (R : ℕ → ℕ → Type 0) (k : ℕ) (a₀ a : List ℕ) (i
   pub left : (b : List ℕ) → Mapped R i a b → Mapped R k a₀ b
 
 module _ {R : ℕ → ℕ → Type 0} {k : ℕ} {a₀ a : List ℕ} {i : ℕ} (S : Calling R k a₀ a i) where
-  pub calling_next : {v : ℕ} → R (get_or a i 0) v → i < length a → Calling R k a₀ (set a i v) (i + 1)
-  calling_next {v} r h = record {
+  pub calling_next : {j v : ℕ} → R (get_or a j 0) v → j ≡ i → i < length a → Calling R k a₀ (set a i v) (i + 1)
+  calling_next {v = v} r q h = record {
     left = λ b M.
         let e : take (suc i) b ≡ take (suc i) (set a i v) = rw (← add-one i) M.stays in
         let Z : AllZip R (drop (suc i) (set a i v)) (drop (suc i) b) = rw (← add-one i) M.answers in
-        S.left b (record { stays = answer_stays R v i a b h e; answers = answer_met R v i a b h r e Z });
+        S.left b (record { stays = answer_stays R v i a b h e; answers = answer_met R v i a b h (rw q at r) e Z });
   }
 
   pub calling_done : length a ≤ i → Mapped R k a₀ a

@@ -1,11 +1,11 @@
 use native.Mathlib.Omega.{arith}
-use Rattle.words.proofs.Sweeps.{calling_done, calling_next, map_done, map_next}
+use Rattle.words.proofs.Sweeps.{calling_done, calling_next, map_done, map_next_at}
 use Rattle.words.proofs.map_from.Goals as goal
 
 pub loop-i-preserved : goal.loop-i-preserved
 loop-i-preserved g c = (
-  calling_next c.loop-i.invariant.0 c.f.ensures (omega arith),
-  λ h e. map_next (c.loop-i.invariant.1 h e) (e _ _ (omega arith) c.f.ensures) (omega arith),
+  calling_next c.loop-i.invariant.0 c.f.ensures (omega arith) (omega arith),
+  λ h e. map_next_at (c.loop-i.invariant.1 h e) (e _ _ (omega arith) c.f.ensures) (omega arith) (omega arith),
 )
 
 pub returns-clause-gives : goal.returns-clause-gives
